@@ -1,0 +1,5 @@
+pub mod Outside
+pub mod Taking
+pub mod Memory
+pub mod Regions
+pub mod Words

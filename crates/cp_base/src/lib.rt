@@ -1,0 +1,41 @@
+// What every other crate stands on: files and sinks, bytes and names, and the layout of a program.
+//
+// In comes what the host gives: files, standard input, sinks. Out go whole files and whole texts,
+// or a refusal whose cause a contract names.
+//
+// The idea: the outside stands behind two traits, `Files` and `Sink`. Each has a count of faults
+// that never falls, and may tell its contents: the bytes of the files, the bytes written so far.
+// The crates above are generic in the traits and proved from their clauses. `MemFiles` and
+// `MemSink` tell all; `StdFiles` and `StdSink` are the real ones, and tell nothing.
+//
+// The invariant: a fault is answered only where the count rose in the call, or stands at its
+// type's end, or where the contents are told and lack the name that was asked for.
+//
+// The theorem, on `put_all`: after `Ok` the sink has gained the whole piece; after `Failed` it has
+// gained a front of it and not all, and its count of faults rose or stands at its type's end.
+//
+// A `Layout` is where a program of the RV32IM machine stands in the one address space of 2^32
+// bytes (The RISC-V Instruction Set Manual, Volume I, 1.4).
+#![tactic(auto)]
+
+mod bytes;
+mod files;
+mod layout;
+mod memory_files;
+mod memory_sink;
+mod name;
+mod sink;
+mod system;
+
+pub use bytes::Bytes;
+pub use files::{Files, TakeFault};
+pub use layout::Layout;
+pub use memory_files::MemFiles;
+pub use memory_sink::MemSink;
+pub use name::{Name, Names};
+pub use sink::{Failed, Sink, put_all};
+pub use sqlite_items::Items;
+pub use system::{StdFiles, StdSink};
+
+#[cfg(test)]
+mod tests;

@@ -1,0 +1,5 @@
+pub mod Jobs
+pub mod FirstForm
+pub mod FirstUnit
+pub mod Messages
+pub mod Answers

@@ -1,0 +1,33 @@
+// What a call of `cparser` answers.
+use rv_code::AsmUnit;
+
+/// Why a job was not done. `input` says which file it was about: INPUT, or else FILE.
+#[derive(Clone, Copy, Debug, PartialEq, Eq)]
+pub enum Fault {
+    /// The words are no job.
+    Usage,
+    /// A file is not there, or could not be read.
+    ReadFault { input: bool },
+    /// The output, or a line on the error sink, could not be written.
+    WriteFault,
+    /// A file has more than 4,194,304 bytes.
+    TooLong { input: bool },
+    /// The unit is not of the first form, the only one that is compiled so far.
+    NotYet,
+    OutOfMemory,
+}
+
+/// What the job made.
+#[derive(Debug, Drop)]
+pub struct Report {
+    pub asm: AsmUnit,
+}
+
+/// The answer: the status that the program ends with, the fault if there was one, and the report
+/// where the job was done.
+#[derive(Debug, Drop)]
+pub struct Done {
+    pub status: u8,
+    pub fault: Option<Fault>,
+    pub report: Option<Report>,
+}

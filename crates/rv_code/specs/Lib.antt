@@ -1,0 +1,7 @@
+pub mod Forms
+pub mod Text
+pub mod Registers
+pub mod Routines
+pub mod Places
+pub mod WellFormed
+pub mod Loading

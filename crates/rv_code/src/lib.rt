@@ -1,0 +1,28 @@
+// Assembly of RV32IM: its form, its text, and where a program stands once it is loaded.
+//
+// In comes an `AsmUnit`: functions of lines, and the items of the data section. Out goes its text,
+// which an assembler reads.
+//
+// The idea: definitions carry the meaning, and code only prints. `specs/Text.antt` is the text,
+// `specs/WellFormed.antt` what makes a unit one, and `specs/Loading.antt` the instructions and the
+// bytes that stand in memory: labels, `%hi` and `%lo` have become numbers there.
+//
+// The theorem, on `text_of`: the bytes are exactly the text of the unit.
+//
+// Source: The RISC-V Instruction Set Manual, Volume I, edition of December 2019, 2 (RV32I) and 7
+// (M); the RISC-V Assembly Programmer's Manual, for the spelling of lines, the names of registers,
+// `%hi` and `%lo`.
+#![tactic(auto)]
+
+mod assembly;
+mod form;
+mod instr;
+mod start;
+mod text;
+
+pub use assembly::{
+    AsmFunction, AsmFunctions, AsmInstr, AsmLine, AsmLines, AsmUnit, DataItem, DataItems, Operand,
+    RvName, Symbol,
+};
+pub use form::Form;
+pub use text::text_of;
