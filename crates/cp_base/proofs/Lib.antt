@@ -1,4 +1,5 @@
 pub mod Gains
+pub mod HoldsTest
 pub mod KnownBytes
 pub mod Placing
 pub mod StoredFiles

@@ -1,5 +1,5 @@
 -- Where a program stands in memory.
-use Rattle.std.specs.Prelude.{◌≡◌, ◌≢◌, ℕ, ◌<◌, ◌≤◌, ◌+◌, ◌-◌, ◌%◌, ◌^◌}
+use Rattle.std.specs.Prelude.{◌≡◌, ◌≢◌, ℕ, ◌<◌, ◌≤◌, ◌+◌, ◌-◌, ◌%◌, ◌^◌, Bool, ◌==◌, nat_lt, nat_le, ◌&&◌, ◌||◌}
 use Rattle.cp_base.specs.declared.layout.Layout.{Layout}
 use Rattle.cp_base.specs.declared.layout.Region.{Region}
 
@@ -53,3 +53,23 @@ pub record Holds (layout : Layout) (code_size data_size : ℕ) : Type 0 where
   pub data_placed : IsPlaced (data_region layout data_size)
   pub stack_placed : IsPlaced (stack_region layout)
   pub apart : AreApart (code_region layout code_size) (data_region layout data_size) (stack_region layout)
+
+-- the same rule as a test; `proofs/HoldsTest.antt` shows that it is the rule
+abbrev pub is_aligned_word : ℕ → Bool
+is_aligned_word n = nat_lt n (2 ^ 32) && (n % 16 == 0)
+
+abbrev pub is_placed : Region → Bool
+is_placed region = nat_le (region.base + region.len) (2 ^ 32) && (nat_lt 0 region.base || (region.len == 0))
+
+abbrev pub are_apart : Region → Region → Bool
+are_apart one other =
+    (one.len == 0) || (other.len == 0) || nat_le (one.base + one.len) other.base || nat_le (other.base + other.len) one.base
+
+abbrev pub holds : Layout → ℕ → ℕ → Bool
+holds layout code_size data_size =
+    is_aligned_word layout.code && is_aligned_word layout.cdata && is_aligned_word layout.top && is_aligned_word layout.stack
+    && nat_le layout.stack layout.top
+    && is_placed (code_region layout code_size) && is_placed (data_region layout data_size) && is_placed (stack_region layout)
+    && are_apart (code_region layout code_size) (data_region layout data_size)
+    && are_apart (code_region layout code_size) (stack_region layout)
+    && are_apart (data_region layout data_size) (stack_region layout)

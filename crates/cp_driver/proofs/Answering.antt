@@ -8,13 +8,11 @@ use Rattle.cp_driver.specs.declared.report.Fault.{Fault}
 use Rattle.cp_driver.specs.declared.report.Fault.TheVariants.{Usage, ReadFault, WriteFault, TooLong, NotYet, OutOfMemory}
 use Rattle.cp_driver.specs.declared.report.Report.{Report}
 use Rattle.cp_driver.specs.declared.report.Done.{Done}
-use Rattle.cp_driver.specs.FirstForm.{IsFirst}
-use Rattle.cp_driver.specs.FirstUnit.{first_unit}
+use Rattle.cp_first.specs.FirstForm.{IsFirst, IsNotFirst}
+use Rattle.cp_first.specs.FirstAssembly.{MachineWrites, IsAssemblyOf}
 use Rattle.cp_driver.specs.Jobs.{Job, Compile}
 use Rattle.cp_driver.specs.Messages.{IsTold}
-use Rattle.cp_driver.specs.Answers.{IsNotFirst, IsRead, IsUnitOf, CompileCause, Cause, IsCompiled, Compiles, NoFault, file_limit}
-use Rattle.cp_driver.proofs.FirstForms.{one_first}
-use Rattle.cp_driver.proofs.FirstWellFormed.{first_unit_is_well_formed}
+use Rattle.cp_driver.specs.Answers.{IsRead, CompileCause, Cause, IsCompiled, Compiles, NoFault, file_limit}
 
 -- a text that is not compiled
 pub compile_cause : (fault : Fault) (file text : List ℕ) (contents : Option Contents) (reads reads' writes writes' : ℕ) → IsRead contents file text → CompileCause fault text → Cause fault file contents reads reads' writes writes'
@@ -25,9 +23,6 @@ compile_cause (ReadFault input) file text contents reads reads' writes writes' r
 compile_cause (TooLong input) file text contents reads reads' writes writes' r h = absurd h
 compile_cause WriteFault file text contents reads reads' writes writes' r h = absurd h
 
-pub unit_is_well_formed : (text : List ℕ) (asm : AsmUnit) → IsUnitOf text asm → IsWellFormed asm
-unit_is_well_formed text asm u = subst IsWellFormed (sym u.unit) (first_unit_is_well_formed u.bytes u.status u.first.each u.first.last)
-
 pub same_file : (job : Option Job) (file other : List ℕ) → job ≡ Some (Compile file) → job ≡ Some (Compile other) → file ≡ other
 same_file job file other e f = cc (e, f)
 
@@ -36,24 +31,33 @@ one_of_both : (contents : Option Contents) (file bytes : List ℕ) → Tells con
 one_of_both None file bytes h k = absurd h
 one_of_both (Some files) file bytes h k = absurd (cc (h, k))
 
+-- the assembly of a compiled file is that of the unit that its text is
+assembly_of : (file text : List ℕ) (contents : Option Contents) (report : Report) (out out' : Option (List ℕ)) → IsCompiled file contents report out out' → Tells contents file text → IsAssemblyOf text report.asm
+assembly_of file text contents report out out' c told = subst (λ t. IsAssemblyOf t report.asm) (c.read.told text told) c.assembly
+
 -- a compiled file is the unit that its text is
 pub compiled : (file text bytes : List ℕ) (status : ℕ) (contents : Option Contents) (report : Report) (out out' err : Option (List ℕ)) → IsCompiled file contents report out out' → Tells contents file text → IsFirst text bytes status → Compiles bytes status (record { status = 0; fault = None; report = Some report }) out out' err err
 compiled file text bytes status contents report out out' err c told first =
-    let one = one_first text c.bytes bytes c.status status (subst (λ t. IsFirst t c.bytes c.status) (c.read.told text told) c.first) first in
-    let unit = c.asm ∙ ap (λ bs. first_unit bs c.status) one.0 ∙ ap (first_unit bytes) one.1 in
+    let assembly = assembly_of file text contents report out out' c told in
+    let unit = assembly.unit bytes status first in
     record {
       ended = refl;
       no_fault = refl;
       report = ap (λ (asm : AsmUnit). Some (record { asm = asm })) unit;
-      well_formed = first_unit_is_well_formed bytes status first.each first.last;
+      well_formed = subst IsWellFormed unit assembly.well_formed;
       written = c.written ∙ ap (λ asm. gained out (text_of asm)) unit;
       silent = refl;
     }
 
+-- and its machine writes the bytes of that unit
+pub compiled_writes : (file text bytes : List ℕ) (status : ℕ) (contents : Option Contents) (report : Report) (out out' : Option (List ℕ)) → IsCompiled file contents report out out' → Tells contents file text → IsFirst text bytes status → MachineWrites report.asm bytes status
+compiled_writes file text bytes status contents report out out' c told first = (assembly_of file text contents report out out' c told).runs bytes status first
+
 -- a file that is not of the first form is not compiled
 pub not_compiled : (file text : List ℕ) (contents : Option Contents) (report : Report) (out out' : Option (List ℕ)) → IsCompiled file contents report out out' → Tells contents file text → IsNotFirst text → ⊥
 not_compiled file text contents report out out' c told none =
-    none c.bytes c.status (subst (λ t. IsFirst t c.bytes c.status) (c.read.told text told) c.first)
+    let first = (assembly_of file text contents report out out' c told).first in
+    none first.0 first.1 first.2
 
 -- where no count rose and memory was not wanting, a unit of the first form is not refused
 pub not_refused : (fault : Fault) (file text bytes : List ℕ) (status : ℕ) (contents : Option Contents) (reads reads' writes writes' lines lines' : ℕ) (done : Done) (err err' : Option (List ℕ)) →

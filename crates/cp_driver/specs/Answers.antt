@@ -8,8 +8,9 @@ use Rattle.cp_driver.specs.declared.report.Fault.{Fault}
 use Rattle.cp_driver.specs.declared.report.Fault.TheVariants.{Usage, ReadFault, WriteFault, TooLong, NotYet, OutOfMemory}
 use Rattle.cp_driver.specs.declared.report.Report.{Report}
 use Rattle.cp_driver.specs.declared.report.Done.{Done}
-use Rattle.cp_driver.specs.FirstForm.{IsFirst}
-use Rattle.cp_driver.specs.FirstUnit.{first_unit}
+use Rattle.cp_first.specs.FirstForm.{IsNotFirst}
+use Rattle.cp_first.specs.FirstUnit.{first_unit}
+use Rattle.cp_first.specs.FirstAssembly.{IsAssemblyOf}
 use Rattle.cp_driver.specs.Messages.{refusal, fault_text}
 
 -- the greatest number of bytes of a file
@@ -21,10 +22,6 @@ pub record NoFault (reads reads' writes writes' lines lines' : ℕ) : Type 0 whe
   pub read : Rose reads reads' → ⊥
   pub output : Rose writes writes' → ⊥
   pub error : Rose lines lines' → ⊥
-
--- the text is not of the first form
-abbrev pub IsNotFirst : List ℕ → Type 0
-IsNotFirst text = (bytes : List ℕ) (status : ℕ) → IsFirst text bytes status → ⊥
 
 -- a file that was read: it is within the limit, and where contents are told, they have it
 pub record IsRead (contents : Option Contents) (file text : List ℕ) : Type 0 where
@@ -41,13 +38,6 @@ ReadCause OutOfMemory file contents reads reads' = Unit {0}
 ReadCause Usage file contents reads reads' = ⊥
 ReadCause NotYet file contents reads reads' = ⊥
 ReadCause WriteFault file contents reads reads' = ⊥
-
--- the assembly of a text of the first form
-pub record IsUnitOf (text : List ℕ) (asm : AsmUnit) : Type 0 where
-  pub bytes : List ℕ
-  pub status : ℕ
-  pub first : IsFirst text bytes status
-  pub unit : asm ≡ first_unit bytes status
 
 -- why a text is not compiled
 abbrev pub CompileCause : Fault → List ℕ → Type 0
@@ -74,17 +64,14 @@ Leaves (ReadFault input) file contents out out' = out' ≡ out
 Leaves (TooLong input) file contents out out' = out' ≡ out
 Leaves NotYet file contents out out' = out' ≡ out
 Leaves WriteFault file contents out out' =
-    (text : List ℕ) × (bytes : List ℕ) × (status : ℕ) × IsRead contents file text × IsFirst text bytes status × GainsFront out out' (text_of (first_unit bytes status))
+    (text : List ℕ) × (asm : AsmUnit) × IsRead contents file text × IsAssemblyOf text asm × GainsFront out out' (text_of asm)
 Leaves OutOfMemory file contents out out' = out' ≡ out
 
 -- the file was compiled, and the whole text was written
 pub record IsCompiled (file : List ℕ) (contents : Option Contents) (report : Report) (out out' : Option (List ℕ)) : Type 0 where
   pub text : List ℕ
-  pub bytes : List ℕ
-  pub status : ℕ
   pub read : IsRead contents file text
-  pub first : IsFirst text bytes status
-  pub asm : report.asm ≡ first_unit bytes status
+  pub assembly : IsAssemblyOf text report.asm
   pub written : out' ≡ gained out (text_of report.asm)
 
 -- the unit of the first form that writes these bytes and ends with this status is compiled, and nothing else happens

@@ -3,17 +3,16 @@ ghost use Rattle.std.specs.Prelude.{◌≡◌, ◌≢◌, ◌≤◌, ◌++◌, �
 ghost use Rattle.cp_base.specs.Outside.{Rose, Tells, Lacks, gained};
 ghost use Rattle.rv_code.specs.Text.{text_of};
 ghost use Rattle.cp_driver.specs.Jobs.{Compile, job_of};
-ghost use Rattle.cp_driver.specs.FirstForm.{IsFirst};
-ghost use Rattle.cp_driver.specs.FirstUnit.{first_unit};
-ghost use Rattle.cp_driver.specs.Answers.{NoFault, IsNotFirst, IsRead, IsUnitOf, ReadCause, CompileCause, Cause, Leaves, IsCompiled, Compiles, IsNotYet, file_limit};
+ghost use Rattle.cp_first.specs.FirstForm.{IsFirst, IsNotFirst};
+ghost use Rattle.cp_first.specs.FirstAssembly.{MachineWrites, IsAssemblyOf};
+ghost use Rattle.cp_driver.specs.Answers.{NoFault, IsRead, ReadCause, CompileCause, Cause, Leaves, IsCompiled, Compiles, IsNotYet, file_limit};
 ghost use Rattle.cp_driver.specs.Messages.{IsTold};
 
-use crate::first_form::read_first;
-use crate::first_unit::first_unit;
 use crate::message::put_fault;
 use crate::report::{Done, Fault, Report};
 use crate::words::file_to_compile;
 use cp_base::{Bytes, Failed, Files, Names, Sink, TakeFault, put_all};
+use cp_first::compile_first;
 use rv_code::{AsmUnit, text_of};
 use std::alloc::{AllocError, Global};
 
@@ -49,6 +48,10 @@ pub fn cparser<F: Files, O: Sink, E: Sink>(
         → NoFault (F.faults files.old) (F.faults files.new) (O.faults out.old) (O.faults out.new) (E.faults err.old) (E.faults err.new)
         → result.fault ≢ Some Fault.OutOfMemory
         → Compiles bytes status result (O.written out.old) (O.written out.new) (E.written err.old) (E.written err.new) }
+    // Wherever its report is there, the machine that runs the assembly writes the bytes and ends with the status.
+    ensures runs { (file text bytes : List ℕ) (status : ℕ) → job_of words.now ≡ Some (Compile file)
+        → Tells (F.contents files.old) file text → IsFirst text bytes status
+        → (report : Report) → result.report ≡ Some report → MachineWrites report.asm bytes status }
     // For any other unit the answer is that it is not compiled yet.
     ensures not_yet { (file text : List ℕ) → job_of words.now ≡ Some (Compile file)
         → Tells (F.contents files.old) file text → length text ≤ file_limit → IsNotFirst text
@@ -125,11 +128,11 @@ fn read_file<F: Files>(alloc: Global, file: &str, files: &mut F) -> Result<Bytes
 
 // The unit of a text of the first form.
 fn compile(alloc: Global, text: &[u8]) -> Result<AsmUnit, Fault>
-    ensures ok { IfOk result (λ asm. IsUnitOf text.now asm) }
+    ensures ok { IfOk result (λ asm. IsAssemblyOf text.now asm) }
     ensures cause { IfErr result (λ fault. CompileCause fault text.now) }
 {
-    match read_first(alloc, text)? {
-        Some(unit) => Ok(first_unit(alloc, &unit)?),
+    match compile_first(alloc, text)? {
+        Some(asm) => Ok(asm),
         None => Err(Fault::NotYet),
     }
 }

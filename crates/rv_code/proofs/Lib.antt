@@ -1,3 +1,9 @@
+pub mod MachineVectors
+pub mod MemoryLaws
 pub mod Pieces
+pub mod RoutineRuns
+pub mod Runs
 pub mod Sizes
+pub mod Stands
 pub mod StartLines
+pub mod UnitStands

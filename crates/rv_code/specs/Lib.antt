@@ -5,3 +5,4 @@ pub mod Routines
 pub mod Places
 pub mod WellFormed
 pub mod Loading
+pub mod Machine

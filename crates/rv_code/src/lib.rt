@@ -1,11 +1,17 @@
-// Assembly of RV32IM: its form, its text, and where a program stands once it is loaded.
+// Assembly of RV32IM: its form, its text, and the machine that runs it.
 //
 // In comes an `AsmUnit`: functions of lines, and the items of the data section. Out goes its text,
 // which an assembler reads.
 //
 // The idea: definitions carry the meaning, and code only prints. `specs/Text.antt` is the text,
-// `specs/WellFormed.antt` what makes a unit one, and `specs/Loading.antt` the instructions and the
-// bytes that stand in memory: labels, `%hi` and `%lo` have become numbers there.
+// `specs/WellFormed.antt` what makes a unit one, `specs/Loading.antt` the instructions and the bytes
+// that stand in memory (labels, `%hi` and `%lo` have become numbers there), and
+// `specs/Machine.antt` the machine: its step, its run, the environment calls.
+//
+// The invariant of a run: it comes from one state to another after at least some steps
+// (`proofs/Runs.antt`, `Comes`), and this composes. There is one lemma for each class of instruction.
+// `proofs/UnitStands.antt` has where the functions and the start-up code of a unit stand, and
+// `proofs/RoutineRuns.antt` what `_start`, `c_getchar` and `c_putchar` do.
 //
 // The theorem, on `text_of`: the bytes are exactly the text of the unit.
 //
@@ -17,6 +23,7 @@
 mod assembly;
 mod form;
 mod instr;
+mod machine;
 mod start;
 mod text;
 
@@ -25,4 +32,5 @@ pub use assembly::{
     RvName, Symbol,
 };
 pub use form::Form;
+pub use machine::RvOutcome;
 pub use text::text_of;

@@ -1,7 +1,7 @@
 use Rattle.std.proofs.Common.{sym, subst}
 use Rattle.cp_driver.specs.Answers.{IsRead}
 use Rattle.std.proofs.lemmas.Result.{err_from_is_err_and}
-use Rattle.cp_driver.proofs.Answering.{compile_cause, unit_is_well_formed}
+use Rattle.cp_driver.proofs.Answering.{compile_cause}
 use Rattle.cp_driver.proofs.driver.compile_file.Goals as goal
 
 pub returns-in_err-asm-clause-cause : goal.returns-in_err-asm-clause-cause
@@ -10,4 +10,4 @@ returns-in_err-asm-clause-cause g c =
     rw (p.1, p.2) (compile_cause _ _ _ _ _ _ _ _ (subst (IsRead (g.F.Files.contents c.args.files.now) c.args.file.now) (sym c.as_slice.ensures) c.in_ok-text.ensures.ok) c.in_err-asm.ensures.cause)
 
 pub text_of-requires : goal.text_of-requires
-text_of-requires g c = unit_is_well_formed _ _ c.in_ok-asm.ensures.ok
+text_of-requires g c = c.in_ok-asm.ensures.ok.well_formed

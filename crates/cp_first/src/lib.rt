@@ -1,0 +1,28 @@
+// Units of the first form: read by hand, and compiled to their assembly.
+//
+// In comes the text of a unit. Out goes its assembly, where the unit is `int putchar(int);`, then a
+// `main` that calls `putchar` on constants and returns one; or the answer that it is no such unit.
+//
+// The idea: this is the thinnest path from a text to a machine that runs. `first_form` reads the
+// unit, and `first_unit` makes its one function. They stand in a crate of their own, which goes when
+// the whole language comes.
+//
+// The invariant: a text is one unit of the first form at most, so that what was read is what the
+// text says (`proofs/FirstForms.antt`).
+//
+// The theorem, on `compile_first`: the assembly is that of the unit and is well formed, and the
+// machine that runs it writes the unit's bytes and ends with its status, on every layout with room
+// for its frame and for every input; and there is none exactly where the text is of another form.
+//
+// Source: C99 5.1.2.2.3 (the status of `main`); the frame and the calls are those of the RISC-V
+// calling convention.
+#![tactic(auto)]
+
+mod compile;
+mod first_form;
+mod first_unit;
+
+pub use compile::compile_first;
+
+#[cfg(test)]
+mod tests;
