@@ -1,8 +1,8 @@
 -- What a sink tells after several pieces.
-use Rattle.std.proofs.Common.{◌≡◌, ℕ, ◌<◌, List, [], ◌++◌, length, take, drop, Option, Some, None, refl, sym, ap, ◌∙◌, arith, append_assoc, length-append}
+use Rattle.std.proofs.Common.{◌≡◌, ℕ, ◌+◌, ◌<◌, List, [], ◌++◌, length, take, drop, Option, Some, None, refl, sym, ap, ◌∙◌, arith, append_assoc, length-append}
 use Rattle.std.specs.Prelude.{Result, Ok, Err, OnErr}
-use Rattle.std.proofs.lemmas.List.{take-append-drop, append-nil}
-use Rattle.std.proofs.Math.Seq.{take-append_seam}
+use Rattle.std.proofs.lemmas.List.{take-append-drop, take-append-le, append-nil}
+use Rattle.std.proofs.Math.Seq.{take-append_seam, take-append-add}
 use Rattle.cp_base.specs.Outside.{gained, GainsFront}
 
 -- one piece after another
@@ -44,3 +44,15 @@ HasTaken-front old now new piece rest some t e = (
 
 pub HasTaken-all : (old new : Option (List ℕ)) (piece rest : List ℕ) → HasTaken old new piece rest → rest ≡ [] → new ≡ gained old piece
 HasTaken-all old new piece rest t e = t.told ∙ ap (gained old) (sym (t.split ∙ ap (λ r. t.done ++ r) e ∙ append-nil t.done))
+
+-- a front of a piece is one of the piece with more after it
+pub GainsFront-more : (old new : Option (List ℕ)) (a b : List ℕ) → GainsFront old new a → GainsFront old new (a ++ b)
+GainsFront-more old new a b (n, lt, e) = (n, omega (arith, lt, length-append a b), e ∙ ap (gained old) (sym (take-append-le n a b (omega (arith, lt)))))
+
+-- a whole piece and then a front of another is a front of both
+pub GainsFront-after : (old now new : Option (List ℕ)) (a b : List ℕ) → now ≡ gained old a → GainsFront now new b → GainsFront old new (a ++ b)
+GainsFront-after old now new a b whole (n, lt, e) = (
+  length a + n,
+  omega (arith, lt, length-append a b),
+  e ∙ ap (λ told. gained told (take n b)) whole ∙ gained-gained old a (take n b) ∙ ap (gained old) (sym (take-append-add a b n)),
+)

@@ -3,6 +3,7 @@ ghost use Rattle.std.specs.Prelude.{◌≡◌, [], ◌++◌, OnOk, OnErr};
 
 use sqlite_items::Items;
 use std::alloc::{AllocError, Global};
+use std::convert::AsStr;
 use std::marker::Model;
 
 /// A name, which contracts see as the list of its bytes in UTF-8.
@@ -20,6 +21,14 @@ impl Model for Name {
     ghost Value = { List ℕ };
 
     ghost view = { λ n. string_bytes n.text };
+}
+
+impl AsStr for Name {
+    ghost text = { λ name. name };
+
+    fn as_str(&self) -> &str {
+        self.text.as_str()
+    }
 }
 
 impl Name {

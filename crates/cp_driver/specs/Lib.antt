@@ -1,3 +1,4 @@
 pub mod Jobs
 pub mod Messages
 pub mod Answers
+pub mod Causes

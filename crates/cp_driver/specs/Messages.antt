@@ -1,6 +1,6 @@
 -- The line of each fault on the error sink, and its status.
 use Rattle.std.specs.Prelude.{◌≡◌, ℕ, List, ◌++◌, ◌⊎◌, codes, Option, Some, None}
-use Rattle.cp_base.specs.Outside.{Rose, gained}
+use Rattle.cp_base.specs.Outside.{Rose, gained, GainsFront}
 use Rattle.cp_driver.specs.declared.report.Done.{Done}
 use Rattle.cp_driver.specs.declared.report.Fault.{Fault}
 use Rattle.cp_driver.specs.declared.report.Fault.TheVariants.{Usage, ReadFault, WriteFault, TooLong, NotYet, OutOfMemory}
@@ -29,7 +29,9 @@ fault_text file OutOfMemory = codes "cparser: out of memory\n"
 abbrev pub refusal : Fault → Done
 refusal fault = record { status = status_of fault; fault = Some fault; report = None }
 
--- how a fault that came with this file is answered: its line is written, or else that could not be written
+-- how a fault that came with this file is answered: its line is written, or else that could not be written. Over the
+-- counts of failed writes on the error sink and what it tells, before and after
 abbrev pub IsTold : Fault → List ℕ → Done → ℕ → ℕ → Option (List ℕ) → Option (List ℕ) → Type 0
-IsTold fault file done faults faults' err err' =
-    ((done ≡ refusal fault) × (err' ≡ gained err (fault_text file fault))) ⊎ ((done ≡ refusal WriteFault) × Rose faults faults')
+IsTold fault file done lines lines' err err' =
+    ((done ≡ refusal fault) × (err' ≡ gained err (fault_text file fault)))
+    ⊎ ((done ≡ refusal WriteFault) × Rose lines lines' × GainsFront err err' (fault_text file fault))

@@ -1,11 +1,12 @@
 // The top call.
-ghost use Rattle.std.specs.Prelude.{◌≡◌, ◌≢◌, ◌≤◌, ◌++◌, ℕ, List, length, Some, None, IfOk, IfErr, MatchResult};
-ghost use Rattle.cp_base.specs.Outside.{Rose, Tells, Lacks, gained};
+ghost use Rattle.std.specs.Prelude.{◌≡◌, ◌≢◌, ◌≤◌, ℕ, List, length, Some, None, IfOk, IfErr};
+ghost use Rattle.cp_base.specs.Outside.{Tells};
 ghost use Rattle.rv_code.specs.Text.{text_of};
 ghost use Rattle.cp_driver.specs.Jobs.{Compile, job_of};
-ghost use Rattle.cp_first.specs.FirstForm.{IsFirst, IsNotFirst};
+ghost use Rattle.cp_first.specs.FirstForm.{IsFirst};
 ghost use Rattle.cp_first.specs.FirstAssembly.{MachineWrites, IsAssemblyOf};
-ghost use Rattle.cp_driver.specs.Answers.{NoFault, IsRead, ReadCause, CompileCause, Cause, Leaves, IsCompiled, Compiles, IsNotYet, file_limit};
+ghost use Rattle.cp_driver.specs.Answers.{NoFault, IsRead, IsCompiled, Compiles, Answers, file_limit};
+ghost use Rattle.cp_driver.specs.Causes.{ReadCause, CompileCause, Cause, Leaves};
 ghost use Rattle.cp_driver.specs.Messages.{IsTold};
 
 use crate::message::put_fault;
@@ -52,15 +53,30 @@ pub fn cparser<F: Files, O: Sink, E: Sink>(
     ensures runs { (file text bytes : List ℕ) (status : ℕ) → job_of words.now ≡ Some (Compile file)
         → Tells (F.contents files.old) file text → IsFirst text bytes status
         → (report : Report) → result.report ≡ Some report → MachineWrites report.asm bytes status }
-    // For any other unit the answer is that it is not compiled yet.
-    ensures not_yet { (file text : List ℕ) → job_of words.now ≡ Some (Compile file)
-        → Tells (F.contents files.old) file text → length text ≤ file_limit → IsNotFirst text
-        → NoFault (F.faults files.old) (F.faults files.new) (O.faults out.old) (O.faults out.new) (E.faults err.old) (E.faults err.new)
-        → result.fault ≢ Some Fault.OutOfMemory
-        → IsNotYet file result (O.written out.old) (O.written out.new) (E.written err.old) (E.written err.new) }
+    // Each fault comes for its cause and in its turn, and leaves what it may.
+    ensures answers { Answers (job_of words.now) result (record {
+      contents = F.contents files.old;
+      read_faults = F.faults files.old;
+      read_faults' = F.faults files.new;
+      write_faults = O.faults out.old;
+      write_faults' = O.faults out.new;
+      line_faults = E.faults err.old;
+      line_faults' = E.faults err.new;
+      out = O.written out.old;
+      out' = O.written out.new;
+      err = E.written err.old;
+      err' = E.written err.new;
+    }) }
+    // The files stay as they are, and no count falls.
+    ensures contents { F.contents files.new ≡ F.contents files.old }
+    ensures counts { (F.faults files.old ≤ F.faults files.new) × (O.faults out.old ≤ O.faults out.new) × (E.faults err.old ≤ E.faults err.new) }
+    // Words that are no job read no file.
+    ensures unread { job_of words.now ≡ None → files.new ≡ files.old }
 {
-    let Some(file) = file_to_compile(words.as_slice()) else {
-        return refuse(err, "", Fault::Usage);
+    let file = match file_to_compile(alloc, words.as_slice()) {
+        Ok(Some(file)) => file,
+        Ok(None) => return refuse(err, "", Fault::Usage),
+        Err(AllocError) => return refuse(err, "", Fault::OutOfMemory),
     };
     match compile_file(alloc, file, files, out) {
         Ok(report) => Done {
@@ -98,9 +114,9 @@ fn compile_file<F: Files, O: Sink>(
     ensures contents { F.contents files.new ≡ F.contents files.old }
     ensures reads { F.faults files.old ≤ F.faults files.new }
     ensures writes { O.faults out.old ≤ O.faults out.new }
-    ensures ok { IfOk result (λ report. IsCompiled file.now (F.contents files.old) report (O.written out.old) (O.written out.new)) }
-    ensures cause { IfErr result (λ fault. Cause fault file.now (F.contents files.old) (F.faults files.old) (F.faults files.new) (O.faults out.old) (O.faults out.new)) }
-    ensures leaves { IfErr result (λ fault. Leaves fault file.now (F.contents files.old) (O.written out.old) (O.written out.new)) }
+    ensures ok { IfOk result (λ report. IsCompiled (F.contents files.old) report (O.written out.old) (O.written out.new) file.now) }
+    ensures cause { IfErr result (λ fault. Cause fault (F.contents files.old) (F.faults files.old) (F.faults files.new) (O.faults out.old) (O.faults out.new) file.now) }
+    ensures leaves { IfErr result (λ fault. Leaves fault (F.contents files.old) (O.written out.old) (O.written out.new) file.now) }
 {
     let text = read_file(alloc, file, files)?;
     let asm = compile(alloc, text.as_slice())?;
@@ -115,7 +131,7 @@ fn read_file<F: Files>(alloc: Global, file: &str, files: &mut F) -> Result<Bytes
     ensures contents { F.contents files.new ≡ F.contents files.old }
     ensures reads { F.faults files.old ≤ F.faults files.new }
     ensures ok { IfOk result (λ text. IsRead (F.contents files.old) file.now text) }
-    ensures cause { IfErr result (λ fault. ReadCause fault file.now (F.contents files.old) (F.faults files.old) (F.faults files.new)) }
+    ensures cause { IfErr result (λ fault. ReadCause fault (F.contents files.old) (F.faults files.old) (F.faults files.new) file.now) }
 {
     let mut text = Bytes::new(alloc);
     match files.take(file, &mut text, FILE_LIMIT) {

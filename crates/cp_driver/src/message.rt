@@ -1,6 +1,6 @@
 // The line of a fault.
 ghost use Rattle.std.specs.Prelude.{◌≡◌, ◌≤◌, ◌++◌, codes, OnOk, OnErr};
-ghost use Rattle.cp_base.specs.Outside.{Rose, gained};
+ghost use Rattle.cp_base.specs.Outside.{Rose, gained, GainsFront};
 ghost use Rattle.cp_driver.specs.Messages.{status_of, fault_text};
 
 use crate::report::Fault;
@@ -29,6 +29,7 @@ impl Fault {
 pub fn put_fault<E: Sink>(err: &mut E, file: &str, fault: &Fault) -> Result<(), Failed>
     ensures count { E.faults err.old ≤ E.faults err.new }
     ensures ok { OnOk result (E.written err.new ≡ gained (E.written err.old) (fault_text file.now fault.now)) }
+    ensures front { OnErr result (GainsFront (E.written err.old) (E.written err.new) (fault_text file.now fault.now)) }
     ensures failed { OnErr result (Rose (E.faults err.old) (E.faults err.new)) }
 {
     match fault {
@@ -45,6 +46,7 @@ pub fn put_fault<E: Sink>(err: &mut E, file: &str, fault: &Fault) -> Result<(), 
 fn put_about<E: Sink>(err: &mut E, file: &str, what: &[u8]) -> Result<(), Failed>
     ensures count { E.faults err.old ≤ E.faults err.new }
     ensures ok { OnOk result (E.written err.new ≡ gained (E.written err.old) (codes "cparser: " ++ (file.now ++ what.now))) }
+    ensures front { OnErr result (GainsFront (E.written err.old) (E.written err.new) (codes "cparser: " ++ (file.now ++ what.now))) }
     ensures failed { OnErr result (Rose (E.faults err.old) (E.faults err.new)) }
 {
     put_all(err, b"cparser: ")?;

@@ -1,8 +1,11 @@
-// Whole calls, over files and sinks in memory.
-use crate::{Done, Fault, cparser};
-use cp_base::{Items, MemFiles, MemSink, Name, Names};
+// Whole calls, over files and sinks in memory, and one over those of the host.
+ghost use Rattle.std.specs.Prelude.{◌<◌};
+
+use crate::{Done, cparser};
+use cp_base::{Bytes, Files, Items, MemFiles, MemSink, Name, Names, StdFiles, StdSink, TakeFault};
 use std::alloc::{AllocError, Global};
 use std::test::Fail;
+use std::{env, fs};
 
 // The unit that writes `Hi`.
 const HI: &[u8] = b"int putchar(int);int main(void){putchar(72);putchar(105);return 0;}";
@@ -58,33 +61,78 @@ const HI_TEXT: &[u8] = b"\
     \t.zero 1\n\
 ";
 
-// What a call answered, and what the sinks hold.
+// How many bytes the output takes a call, and which call of each object fails, counted from 1; 0 for
+// none.
+#[derive(Clone, Copy)]
+struct Host {
+    piece: usize,
+    read: usize,
+    output: usize,
+    error: usize,
+}
+
+const NO_FAULT: Host = Host {
+    piece: 256,
+    read: 0,
+    output: 0,
+    error: 0,
+};
+
+const USAGE: &str = "usage: cparser [-S] [--regs K] [--dump STAGE] [--syntax-only] [--run INPUT] \
+    [--interpret INPUT] [--fuel N] [--depth D] [--stack B] [--generate SEED] [FILE]\n";
+
+// What a call answered, and the objects after it.
 #[derive(Drop)]
 struct Outcome {
     done: Done,
+    files: MemFiles,
     out: MemSink,
     err: MemSink,
 }
 
-// A call with these words, on one file `hi.c` of this text.
-fn call(alloc: Global, words: &[&str], text: &[u8]) -> Result<Outcome, AllocError> {
-    let mut files = MemFiles::new(alloc);
-    files.add("hi.c", text)?;
-    let mut out = MemSink::new(alloc, 4096, 4096)?;
-    let mut err = MemSink::new(alloc, 4096, 4096)?;
+fn names(alloc: Global, words: &[&str]) -> Result<Names, AllocError> {
     let mut names: Names = Items::new(alloc);
     for word in words {
         let mut name = Name::new(alloc);
         name.push_all(word)?;
         names.push(name)?;
     }
-    let done = cparser(alloc, &names, &mut files, &mut out, &mut err);
-    Ok(Outcome { done, out, err })
+    Ok(names)
+}
+
+// A call with these words, on one file `hi.c` of this text.
+fn call(alloc: Global, words: &[&str], text: &[u8], host: Host) -> Result<Outcome, AllocError>
+    requires { 0 < host.piece }
+{
+    let mut files = MemFiles::new(alloc);
+    files.add("hi.c", text)?;
+    files.fail(host.read)?;
+    let mut out = MemSink::new(alloc, host.piece, 4096)?;
+    out.fail(host.output)?;
+    let mut err = MemSink::new(alloc, 4096, 4096)?;
+    err.fail(host.error)?;
+    let words = names(alloc, words)?;
+    let done = cparser(alloc, &words, &mut files, &mut out, &mut err);
+    Ok(Outcome {
+        done,
+        files,
+        out,
+        err,
+    })
+}
+
+// A call that is refused with this status and this line, and writes no output.
+fn is_refused(outcome: &Outcome, status: u8, line: &str) -> bool {
+    outcome.done.status == status
+        && outcome.done.fault.is_some()
+        && outcome.done.report.is_none()
+        && outcome.out.bytes().is_empty()
+        && outcome.err.bytes() == line.as_bytes()
 }
 
 #[test]
 fn hi(rt: HostRuntime) -> Result<(), Fail> {
-    let outcome = call(rt.alloc(), &["cparser", "hi.c"], HI)?;
+    let outcome = call(rt.alloc(), &["cparser", "hi.c"], HI, NO_FAULT)?;
     assert_eq!(rt; outcome.done.status, 0);
     assert!(rt; outcome.done.fault.is_none() && outcome.done.report.is_some());
     assert_eq!(rt; outcome.out.bytes(), HI_TEXT);
@@ -93,40 +141,155 @@ fn hi(rt: HostRuntime) -> Result<(), Fail> {
 }
 
 #[test]
-fn refusals(rt: HostRuntime) -> Result<(), Fail> {
-    let usage = "usage: cparser [-S] [--regs K] [--dump STAGE] [--syntax-only] [--run INPUT] \
-        [--interpret INPUT] [--fuel N] [--depth D] [--stack B] [--generate SEED] [FILE]\n";
-    let rows: [(&[&str], &[u8], u8, &str); 8] = [
-        (&["cparser", "hi.c", "hi.c"], HI, 2, usage),
-        (&["cparser", "-x"], HI, 2, usage),
-        (&["cparser", ""], HI, 2, usage),
-        (&[], HI, 2, usage),
-        (&["cparser", "-"], HI, 3, "cparser: -: read failed\n"),
-        (
-            &["cparser", "none.c"],
-            HI,
-            3,
-            "cparser: none.c: read failed\n",
-        ),
-        (
-            &["cparser", "hi.c"],
-            b"int main(void){return 7;}",
-            1,
-            "cparser: hi.c: not yet\n",
-        ),
-        (
-            &["cparser", "hi.c"],
-            b"int putchar(int);int main(void){putchar(256);return 0;}",
-            1,
-            "cparser: hi.c: not yet\n",
-        ),
+fn second_write_fails(rt: HostRuntime) -> Result<(), Fail> {
+    let host = Host {
+        piece: 16,
+        output: 2,
+        ..NO_FAULT
+    };
+    let outcome = call(rt.alloc(), &["cparser", "-S", "hi.c"], HI, host)?;
+    assert_eq!(rt; outcome.done.status, 4);
+    assert_eq!(rt; outcome.out.bytes(), b"\t.text\n\t.globl _".as_slice());
+    assert_eq!(rt; outcome.err.bytes(), b"cparser: write failed\n".as_slice());
+    Ok(())
+}
+
+#[test]
+fn missing_file(rt: HostRuntime) -> Result<(), Fail> {
+    let outcome = call(rt.alloc(), &["cparser", "-S", "none.c"], HI, NO_FAULT)?;
+    assert!(rt; is_refused(&outcome, 3, "cparser: none.c: read failed\n"));
+    Ok(())
+}
+
+#[test]
+fn not_yet(rt: HostRuntime) -> Result<(), Fail> {
+    let units: [&[u8]; 2] = [
+        b"int main(void){return 7;}",
+        b"int putchar(int);int main(void){putchar(256);putchar(105);return 0;}",
     ];
-    for (words, text, status, line) in rows {
-        let outcome = call(rt.alloc(), words, text)?;
+    for unit in units {
+        let outcome = call(rt.alloc(), &["cparser", "-S", "hi.c"], unit, NO_FAULT)?;
+        assert!(rt; is_refused(&outcome, 1, "cparser: hi.c: not yet\n"));
+    }
+    Ok(())
+}
+
+// Words that are no job give the usage line, and read no file: the first read is still to come.
+#[test]
+fn usage(rt: HostRuntime) -> Result<(), Fail> {
+    let rows: [&[&str]; 19] = [
+        &[],
+        &["cparser"],
+        &["cparser", ""],
+        &["cparser", "a", "b"],
+        &["cparser", "hi.c", ""],
+        &["cparser", "-", "-"],
+        &["cparser", "-S"],
+        &["cparser", "-S", "-S", "hi.c"],
+        &["cparser", "-SS", "hi.c"],
+        &["cparser", "-S=x", "hi.c"],
+        &["cparser", "-S=x"],
+        &["cparser", "-x"],
+        &["cparser", "--help"],
+        &["cparser", "-h"],
+        &["cparser", "--version"],
+        &["cparser", "-V"],
+        &["cparser", "--"],
+        &["cparser", "--", "-S", "b"],
+        &["cparser", "--S", "hi.c"],
+    ];
+    let host = Host {
+        read: 1,
+        ..NO_FAULT
+    };
+    for words in rows {
+        let mut outcome = call(rt.alloc(), words, HI, host)?;
+        assert!(rt; is_refused(&outcome, 2, USAGE));
+        let mut text = Bytes::new(rt.alloc());
+        let first = outcome.files.take("hi.c", &mut text, 4096);
+        assert_eq!(rt; first, Err(TakeFault::Failed));
+    }
+    Ok(())
+}
+
+// Words that ask for a file, which is not there: the line names it.
+#[test]
+fn files_that_words_name(rt: HostRuntime) -> Result<(), Fail> {
+    let rows: [(&[&str], &str); 9] = [
+        (&["cparser", "-"], "-"),
+        (&["cparser", "f"], "f"),
+        (&["cparser", "help"], "help"),
+        (&["cparser", "-S", "f"], "f"),
+        (&["cparser", "f", "-S"], "f"),
+        (&["cparser", "-S", "-"], "-"),
+        (&["cparser", "f", "--"], "f"),
+        (&["cparser", "--", "-S"], "-S"),
+        (&["cparser", "-S", "--", "-S"], "-S"),
+    ];
+    for (words, file) in rows {
+        let outcome = call(rt.alloc(), words, HI, NO_FAULT)?;
+        assert_eq!(rt; outcome.done.status, 3, "{file}");
+        let line = outcome.err.bytes();
+        let after = line.strip_prefix(b"cparser: ".as_slice()).unwrap_or(b"");
+        let name = after
+            .strip_suffix(b": read failed\n".as_slice())
+            .unwrap_or(b"");
+        assert_eq!(rt; name, file.as_bytes());
+    }
+    Ok(())
+}
+
+// The read, each write of the output and each write of a line fail in turn.
+#[test]
+fn each_call_fails(rt: HostRuntime) -> Result<(), Fail> {
+    let write_failed = "cparser: write failed\n";
+    let rows: [(&[u8], (usize, usize, usize), u8, usize, &str); 11] = [
+        (HI, (1, 0, 0), 3, 0, "cparser: hi.c: read failed\n"),
+        (HI, (2, 5, 1), 0, 790, ""),
+        (HI, (0, 1, 0), 4, 0, write_failed),
+        (HI, (0, 2, 0), 4, 256, write_failed),
+        (HI, (0, 3, 0), 4, 512, write_failed),
+        (HI, (0, 4, 0), 4, 768, write_failed),
+        (HI, (0, 2, 1), 4, 256, ""),
+        (HI, (1, 0, 1), 4, 0, ""),
+        (b"", (0, 1, 1), 4, 0, ""),
+        (b"", (0, 1, 2), 4, 0, "cparser: "),
+        (b"", (0, 1, 3), 4, 0, "cparser: hi.c"),
+    ];
+    for (text, (read, output, error), status, written, line) in rows {
+        let host = Host {
+            read,
+            output,
+            error,
+            ..NO_FAULT
+        };
+        let outcome = call(rt.alloc(), &["cparser", "hi.c"], text, host)?;
         assert_eq!(rt; outcome.done.status, status, "{line}");
-        assert!(rt; outcome.done.fault.is_some() && outcome.done.report.is_none());
-        assert_eq!(rt; outcome.out.bytes(), b"".as_slice(), "{line}");
+        assert_eq!(rt; outcome.out.bytes().len(), written, "{line}");
+        assert!(rt; HI_TEXT.starts_with(outcome.out.bytes()), "{line}");
         assert_eq!(rt; outcome.err.bytes(), line.as_bytes(), "{line}");
+    }
+    Ok(())
+}
+
+// The same over the files of the host.
+#[test]
+fn files_of_the_host(rt: HostRuntime) -> Result<(), Fail> {
+    let folder = env::temp_dir(&rt)?;
+    let file = folder.join(rt.alloc(), "gakorunge-hi.c")?;
+    let output = folder.join(rt.alloc(), "gakorunge-hi.s")?;
+    let error = folder.join(rt.alloc(), "gakorunge-hi.err")?;
+    fs::write(&rt, &file, HI)?;
+    let words = names(rt.alloc(), &["cparser", file.to_str().unwrap_or("")])?;
+    let mut files = StdFiles::new(&rt);
+    let mut out = StdSink::new(fs::create(&rt, &output)?);
+    let mut err = StdSink::new(fs::create(&rt, &error)?);
+    let done = cparser(rt.alloc(), &words, &mut files, &mut out, &mut err);
+    assert_eq!(rt; done.status, 0);
+    assert_eq!(rt; fs::read(&rt, &output)?.as_slice(), HI_TEXT);
+    assert_eq!(rt; fs::read(&rt, &error)?.as_slice(), b"".as_slice());
+    for path in [&file, &output, &error] {
+        fs::remove_file(&rt, path)?;
     }
     Ok(())
 }

@@ -1,0 +1,83 @@
+-- Lists of words with the files that they ask to compile.
+use Rattle.std.proofs.Common.{◌≡◌, ℕ, List, [], ◌∷◌, Option, Some, None, refl}
+use Rattle.std.specs.Prelude.{codes, map, option_map}
+use Rattle.clap.proofs.OnLiterals.{clap_on_literals}
+use Rattle.cp_driver.specs.Jobs.{Compile, job_of}
+
+abbrev Words : Type 0
+Words = List (List ℕ)
+
+-- the words after the program's name, and the file, or none where the words are no job
+abbrev rows : List (Words × Option (List ℕ))
+rows =
+    -- files
+    ([], None) ∷
+    (codes "" ∷ [], None) ∷
+    (codes "-" ∷ [], Some (codes "-")) ∷
+    (codes "a" ∷ [], Some (codes "a")) ∷
+    (codes "a b" ∷ [], Some (codes "a b")) ∷
+    (codes "a=b" ∷ [], Some (codes "a=b")) ∷
+    (codes "help" ∷ [], Some (codes "help")) ∷
+    (codes "a" ∷ codes "b" ∷ [], None) ∷
+    (codes "a" ∷ codes "" ∷ [], None) ∷
+    (codes "-" ∷ codes "-" ∷ [], None) ∷
+    -- the option
+    (codes "-S" ∷ [], None) ∷
+    (codes "-S" ∷ codes "a" ∷ [], Some (codes "a")) ∷
+    (codes "-S" ∷ codes "-" ∷ [], Some (codes "-")) ∷
+    (codes "-S" ∷ codes "" ∷ [], None) ∷
+    (codes "-S" ∷ codes "a" ∷ codes "b" ∷ [], None) ∷
+    (codes "f" ∷ codes "-S" ∷ [], Some (codes "f")) ∷
+    (codes "-S" ∷ codes "-S" ∷ [], None) ∷
+    (codes "-S" ∷ codes "-S" ∷ codes "a" ∷ [], None) ∷
+    (codes "-S" ∷ codes "a" ∷ codes "-S" ∷ [], None) ∷
+    (codes "-SS" ∷ [], None) ∷
+    (codes "-SS" ∷ codes "a" ∷ [], None) ∷
+    (codes "-S=x" ∷ [], None) ∷
+    (codes "-S=x" ∷ codes "a" ∷ [], None) ∷
+    (codes "-Sa" ∷ codes "b" ∷ [], None) ∷
+    -- options that are not there
+    (codes "-s" ∷ codes "a" ∷ [], None) ∷
+    (codes "-x" ∷ [], None) ∷
+    (codes "-x" ∷ codes "a" ∷ [], None) ∷
+    (codes "-1" ∷ codes "a" ∷ [], None) ∷
+    (codes "--S" ∷ codes "a" ∷ [], None) ∷
+    (codes "--file" ∷ codes "a" ∷ [], None) ∷
+    (codes "--file=a" ∷ [], None) ∷
+    (codes "--assembly" ∷ codes "a" ∷ [], None) ∷
+    (codes "--help" ∷ [], None) ∷
+    (codes "--help" ∷ codes "a" ∷ [], None) ∷
+    (codes "-h" ∷ [], None) ∷
+    (codes "-h" ∷ codes "a" ∷ [], None) ∷
+    (codes "--version" ∷ [], None) ∷
+    (codes "--version" ∷ codes "a" ∷ [], None) ∷
+    (codes "-V" ∷ [], None) ∷
+    (codes "-V" ∷ codes "a" ∷ [], None) ∷
+    (codes "--regs" ∷ codes "7" ∷ codes "r1.c" ∷ [], None) ∷
+    (codes "--run" ∷ codes "E" ∷ codes "--interpret" ∷ codes "E" ∷ codes "r1.c" ∷ [], None) ∷
+    -- the end of the options
+    (codes "--" ∷ [], None) ∷
+    (codes "f" ∷ codes "--" ∷ [], Some (codes "f")) ∷
+    (codes "--" ∷ codes "a" ∷ [], Some (codes "a")) ∷
+    (codes "--" ∷ codes "-" ∷ [], Some (codes "-")) ∷
+    (codes "--" ∷ codes "--" ∷ [], Some (codes "--")) ∷
+    (codes "--" ∷ codes "-S" ∷ [], Some (codes "-S")) ∷
+    (codes "--" ∷ codes "" ∷ [], None) ∷
+    (codes "--" ∷ codes "-S" ∷ codes "b" ∷ [], None) ∷
+    (codes "--" ∷ codes "a" ∷ codes "-S" ∷ [], None) ∷
+    (codes "a" ∷ codes "--" ∷ codes "b" ∷ [], None) ∷
+    (codes "a" ∷ codes "--" ∷ codes "-S" ∷ [], None) ∷
+    (codes "-S" ∷ codes "--" ∷ codes "-S" ∷ [], Some (codes "-S")) ∷ []
+
+words_ask : map (λ row. job_of (codes "cparser" ∷ row.0)) rows ≡ map (λ row. option_map Compile row.1) rows
+unfolding job_of clap_on_literals
+words_ask = refl
+
+-- the program's name is no option and no file
+names_of_the_program : map (λ name. job_of (name ∷ codes "-S" ∷ codes "a" ∷ [])) (codes "" ∷ codes "-S" ∷ codes "--" ∷ codes "b" ∷ []) ≡ map (λ file. Some (Compile file)) (codes "a" ∷ codes "a" ∷ codes "a" ∷ codes "a" ∷ [])
+unfolding job_of clap_on_literals
+names_of_the_program = refl
+
+no_program : job_of [] ≡ None
+unfolding job_of clap_on_literals
+no_program = refl
