@@ -1,17 +1,18 @@
 -- Short texts: the tokens of some, and the place at which others have none.
-use Rattle.std.proofs.Common.{◌≡◌, ℕ, ◌+◌, inl, Bool, true, false, List, [], ◌∷◌, ◌++◌, ◌==◌, ◌||◌, ◌&&◌, None, codes, refl, sym, ap, ◌∙◌, subst, arith, take, drop, lit<, lit≤}
+use Rattle.std.proofs.Common.{◌≡◌, ℕ, ◌+◌, inl, Bool, true, false, List, [], ◌∷◌, ◌++◌, ◌==◌, ◌||◌, ◌&&◌, codes, refl, sym, ap, ◌∙◌, subst, arith, take, drop, lit<, lit≤}
 use Rattle.c_lexer.specs.declared.token.IntType.TheVariants.{Int}
 use Rattle.c_lexer.specs.declared.token.Punct.TheVariants as mark
 use Rattle.c_lexer.specs.declared.token.Token.{Token}
 use Rattle.c_lexer.specs.declared.token.TokenKind.{TokenKind}
 use Rattle.c_lexer.specs.declared.token.TokenKind.TheVariants as kind
-use Rattle.c_lexer.specs.Numbers.{constant_of}
 use Rattle.c_lexer.specs.Literals.{middle, StandsFor, nothing, plain, hexadecimal, octal}
 use Rattle.c_lexer.specs.Spellings.{is_spelling, IsToken, word, integer, character, string, punctuator}
 use Rattle.c_lexer.specs.Tokens.{begins_comment, has_close, IsPiece, blank, line_comment, block_comment, skipped_line, token, Reaches, here, piece, HasTokens, IsLexical}
 use Rattle.c_lexer.proofs.OneToken as one
 use Rattle.c_lexer.proofs.OneList as list
-use Rattle.c_lexer.proofs.Steps.{HasNoPiece, is_lexical, is_longest, longest}
+use Rattle.c_lexer.specs.Readings.{HasNoPiece}
+use Rattle.c_lexer.proofs.Steps.{is_lexical, is_longest, longest}
+use Rattle.c_lexer.proofs.TokensAt.{no_constant}
 
 abbrev at : TokenKind → ℕ → ℕ → Token
 at k from to = record { kind = k; start = from; end = to }
@@ -92,17 +93,6 @@ no_token_here bytes from n c l none m tokens p = other m tokens p (sym c ∙ lis
     other _ _ (block_comment k d) i = omega (arith, i)
     other _ _ (skipped_line k d) i = omega (arith, i)
     other _ _ (token k what g w t) i = none what (subst (λ j. IsToken (take j (drop from bytes)) what) (one.one_longest (drop from bytes) k n w (longest (drop from bytes) n l)) t)
-
--- a number run that is no constant
-no_constant : (text : List ℕ) → one.class_of text ≡ 1 → constant_of text ≡ None → (k : TokenKind) → IsToken text k → ⊥
-no_constant text c none k p = other text k p none (sym c ∙ one.token_is_of_class text k p)
-  where
-    other : (t : List ℕ) (l : TokenKind) (q : IsToken t l) → constant_of t ≡ None → 1 ≡ one.token_class t l q → ⊥
-    other _ _ (word t h) n i = omega (arith, i)
-    other _ _ (integer t v y h e) n i = absurd (cc (sym n ∙ e))
-    other _ _ (character t v h s) n i = omega (arith, i)
-    other _ _ (string t bs h s) n i = omega (arith, i)
-    other _ _ (punctuator t m h) n i = omega (arith, i)
 
 -- `0xE+1`: one number run
 run-with-a-sign : IsLexical (codes "0xE+1") 0

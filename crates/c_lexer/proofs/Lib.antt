@@ -3,3 +3,9 @@ pub mod OneToken
 pub mod OneList
 pub mod Steps
 pub mod Cases
+pub mod Insides
+pub mod Values
+pub mod Characters
+pub mod Longest
+pub mod TokensAt
+pub mod Blanks

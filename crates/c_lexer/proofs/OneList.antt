@@ -1,5 +1,5 @@
 -- At a place stands one piece at most, and bytes have one list of tokens at most.
-use Rattle.std.proofs.Common.{◌≡◌, ℕ, zero, suc, ◌+◌, ◌<◌, ◌≤◌, Bool, true, false, List, [], ◌∷◌, ◌++◌, ◌==◌, ◌||◌, ◌&&◌, refl, sym, ap, ◌∙◌, subst, arith, length, take, drop, append_assoc}
+use Rattle.std.proofs.Common.{◌≡◌, ℕ, zero, suc, ◌+◌, ◌<◌, ◌≤◌, Bool, true, false, List, [], ◌∷◌, ◌++◌, ◌==◌, ◌||◌, ◌&&◌, refl, sym, ap, ◌∙◌, subst, arith, length, take, drop, append_assoc, length-append, length-drop}
 use Rattle.std.proofs.lemmas.Bool.Decides.{nat_tests}
 use Rattle.std.proofs.lemmas.List.{append-nil}
 use Rattle.c_lexer.specs.declared.token.Token.{Token}
@@ -162,6 +162,21 @@ module _ (bytes : List ℕ) (at : ℕ) where
   piece_moves _ _ (token n kind h l t) = l.some
 
 -- ---- lists
+
+module _ (bytes : List ℕ) (at : ℕ) (inside : at ≤ length bytes) where
+  -- a piece stands within the bytes
+  pub piece_within : (n : ℕ) (tokens : List Token) → IsPiece bytes at n tokens → at + n ≤ length bytes
+  piece_within _ _ (blank b rest e h) = omega (arith, inside, ap length e, length-drop at bytes)
+  piece_within _ _ (line_comment n c) = let size = c.size in omega (arith, inside, size, ap length c.split, length-drop at bytes, length-append c.body c.after)
+  piece_within _ _ (block_comment n c) = let size = c.size in omega (arith, inside, size, ap length c.split, length-drop at bytes, length-append c.body (42 ∷ 47 ∷ c.after))
+  piece_within _ _ (skipped_line n c) = let size = c.size in omega (arith, inside, size, ap length c.split, length-drop at bytes, length-append c.body c.after)
+  piece_within _ _ (token n kind h l t) = let within = l.within in omega (arith, inside, within, length-drop at bytes)
+
+module _ (bytes : List ℕ) where
+  -- and so does what pieces reach
+  pub reach_within : (at end : ℕ) (tokens : List Token) → at ≤ length bytes → Reaches bytes at end tokens → end ≤ length bytes
+  reach_within _ _ _ inside (here at) = inside
+  reach_within _ _ _ inside (piece at n end tokens rest p r) = reach_within (at + n) end rest (piece_within bytes at inside n tokens p) r
 
 module _ (bytes : List ℕ) where
   -- pieces lead on

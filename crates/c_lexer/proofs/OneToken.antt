@@ -18,12 +18,12 @@ use Rattle.c_lexer.proofs.Fronts.{both, find_passes, mark_row, is_plain_front, i
 -- ---- escapes
 
 -- a run of a class, as long as it can be up to k bytes
-record IsRun (p : ℕ → Bool) (k : ℕ) (digits rest : List ℕ) : Type 0 where
-  most : length digits ≤ k
-  each : AllByRecursion (λ b. p b ≡ true) digits
-  whole : (length digits ≡ k) ⊎ EndsBefore p rest
+pub record IsRun (p : ℕ → Bool) (k : ℕ) (digits rest : List ℕ) : Type 0 where
+  pub most : length digits ≤ k
+  pub each : AllByRecursion (λ b. p b ≡ true) digits
+  pub whole : (length digits ≡ k) ⊎ EndsBefore p rest
 
-one_run : (p : ℕ → Bool) (k : ℕ) (ds rs es ss : List ℕ) → IsRun p k ds rs → IsRun p k es ss → ds ++ rs ≡ es ++ ss → (ds ≡ es) × (rs ≡ ss)
+pub one_run : (p : ℕ → Bool) (k : ℕ) (ds rs es ss : List ℕ) → IsRun p k ds rs → IsRun p k es ss → ds ++ rs ≡ es ++ ss → (ds ≡ es) × (rs ≡ ss)
 one_run p k [] rs [] ss u v e = (refl, e)
 one_run p k [] rs (c ∷ es) ss u v e = absurd (stops u.whole)
   where
@@ -47,10 +47,10 @@ one_run p (suc k) (c ∷ ds) rs (d ∷ es) ss u v e =
         less (inl h) = inl (omega (arith, h))
         less (inr h) = inr h
 
-octal_run : (ds rs : List ℕ) → IsOctal ds rs → IsRun is_octal 3 ds rs
+pub octal_run : (ds rs : List ℕ) → IsOctal ds rs → IsRun is_octal 3 ds rs
 octal_run ds rs o = record { most = o.most; each = o.each; whole = o.whole }
 
-hexadecimal_run : (k : ℕ) (ds rs : List ℕ) → length ds ≤ k → IsHexadecimal ds rs → IsRun is_hexadecimal k ds rs
+pub hexadecimal_run : (k : ℕ) (ds rs : List ℕ) → length ds ≤ k → IsHexadecimal ds rs → IsRun is_hexadecimal k ds rs
 hexadecimal_run k ds rs le o = record { most = le; each = o.each; whole = inr o.whole }
 
 -- a simple escape is no octal digit
@@ -65,20 +65,20 @@ simple_is_not_octal b value e digit = at (find (λ x. x.0 == b) escapes) refl e
     at None h f = absurd (cc f)
 
 -- what an octal escape begins with
-octal_begins : (b : ℕ) (rest ds rs : List ℕ) → b ∷ rest ≡ ds ++ rs → IsOctal ds rs → is_octal b ≡ true
+pub octal_begins : (b : ℕ) (rest ds rs : List ℕ) → b ∷ rest ≡ ds ++ rs → IsOctal ds rs → is_octal b ≡ true
 octal_begins b rest [] rs e o = let some = o.some in absurd (omega (arith, some))
 octal_begins b rest (d ∷ ds) rs e o = let same : d ≡ b = cc e in subst (λ x. is_octal x ≡ true) same o.each.0
 
-simple_or_octal : (b value : ℕ) (rest ds rs : List ℕ) → escape_value b ≡ Some value → b ∷ rest ≡ ds ++ rs → IsOctal ds rs → ⊥
+pub simple_or_octal : (b value : ℕ) (rest ds rs : List ℕ) → escape_value b ≡ Some value → b ∷ rest ≡ ds ++ rs → IsOctal ds rs → ⊥
 simple_or_octal b value rest ds rs h e o = simple_is_not_octal b value h (octal_begins b rest ds rs e o)
 
-simple_or_hexadecimal : (b value : ℕ) (rest more : List ℕ) → escape_value b ≡ Some value → b ∷ rest ≡ 120 ∷ more → ⊥
+pub simple_or_hexadecimal : (b value : ℕ) (rest more : List ℕ) → escape_value b ≡ Some value → b ∷ rest ≡ 120 ∷ more → ⊥
 simple_or_hexadecimal b value rest more h e =
     let same : b ≡ 120 = cc e in
     let none : None ≡ Some value = subst (λ x. escape_value x ≡ Some value) same h in
     absurd (cc none)
 
-octal_or_hexadecimal : (text ds rs more : List ℕ) → text ≡ ds ++ rs → IsOctal ds rs → text ≡ 120 ∷ more → ⊥
+pub octal_or_hexadecimal : (text ds rs more : List ℕ) → text ≡ ds ++ rs → IsOctal ds rs → text ≡ 120 ∷ more → ⊥
 octal_or_hexadecimal text ds rs more e o f = absurd (cc (octal_begins 120 more ds rs (sym f ∙ e) o))
 
 -- the text between quotes stands for one list of bytes
@@ -122,11 +122,11 @@ abbrev pub class_of : List ℕ → ℕ
 class_of [] = 5
 class_of (a ∷ rest) = by_tests (is_nondigit a) (a == single_quote) (a == double_quote) (begins_number (a ∷ rest))
 
-word_class : (text : List ℕ) → is_word text ≡ true → class_of text ≡ 0
+pub word_class : (text : List ℕ) → is_word text ≡ true → class_of text ≡ 0
 word_class [] h = absurd (cc h)
 word_class (a ∷ rest) h = ap (λ b. by_tests b (a == single_quote) (a == double_quote) (begins_number (a ∷ rest))) (both (is_nondigit a) _ h).0
 
-number_class : (text : List ℕ) → is_number_run text ≡ true → class_of text ≡ 1
+pub number_class : (text : List ℕ) → is_number_run text ≡ true → class_of text ≡ 1
 number_class [] h = absurd (cc h)
 number_class (a ∷ rest) h =
     let begins = (both (begins_number (a ∷ rest)) _ h).0 in
@@ -140,7 +140,7 @@ number_class (a ∷ rest) h =
     digits [] b = (grind (arith, nat_tests), grind (arith, nat_tests), grind (arith, nat_tests))
     digits (c ∷ more) b = (grind (arith, nat_tests), grind (arith, nat_tests), grind (arith, nat_tests))
 
-character_class : (text : List ℕ) → is_literal single_quote text ≡ true → class_of text ≡ 2
+pub character_class : (text : List ℕ) → is_literal single_quote text ≡ true → class_of text ≡ 2
 character_class [] h = absurd (cc h)
 character_class (a ∷ rest) h =
     let first = (both (a == single_quote) _ (both (nat_le 2 (length (a ∷ rest))) _ h).1).0 in
@@ -148,7 +148,7 @@ character_class (a ∷ rest) h =
     ap (λ b. by_tests b (a == single_quote) (a == double_quote) (begins_number (a ∷ rest))) letter
     ∙ ap (λ b. by_tests false b (a == double_quote) (begins_number (a ∷ rest))) first
 
-string_class : (text : List ℕ) → is_literal double_quote text ≡ true → class_of text ≡ 3
+pub string_class : (text : List ℕ) → is_literal double_quote text ≡ true → class_of text ≡ 3
 string_class [] h = absurd (cc h)
 string_class (a ∷ rest) h =
     let first = (both (a == double_quote) _ (both (nat_le 2 (length (a ∷ rest))) _ h).1).0 in
@@ -158,11 +158,11 @@ string_class (a ∷ rest) h =
     ∙ ap (λ b. by_tests false b (a == double_quote) (begins_number (a ∷ rest))) single
     ∙ ap (λ b. by_tests false false b (begins_number (a ∷ rest))) first
 
-is_not : (b : Bool) → not b ≡ true → b ≡ false
+pub is_not : (b : Bool) → not b ≡ true → b ≡ false
 is_not true e = absurd (cc e)
 is_not false e = refl
 
-punctuator_class : (text : List ℕ) (mark : Punct) → mark_of text ≡ Some mark → class_of text ≡ 4
+pub punctuator_class : (text : List ℕ) (mark : Punct) → mark_of text ≡ Some mark → class_of text ≡ 4
 punctuator_class text mark h =
     let m = mark_row is_plain_mark text marks_are_plain (ap is_some h) in
     plain_class text (subst (λ t. (is_plain_front t && not (begins_number t)) ≡ true) m.same m.passes)

@@ -6,6 +6,7 @@ use Rattle.std.proofs.lemmas.List.{append-nil}
 use Rattle.c_lexer.specs.declared.token.Token.{Token}
 use Rattle.c_lexer.specs.Spellings.{is_spelling, IsLongest}
 use Rattle.c_lexer.specs.Tokens.{IsPiece, Reaches, here, piece, IsLexical}
+use Rattle.c_lexer.specs.Readings.{HasNoPiece}
 use Rattle.c_lexer.proofs.Fronts.{both}
 use Rattle.c_lexer.proofs.OneList.{on_one_way}
 
@@ -14,10 +15,6 @@ pub Reaches-more : (bytes : List ℕ) (start at n : ℕ) (tokens new : List Toke
 Reaches-more bytes _ _ n _ new (here at) p = subst (Reaches bytes at (at + n)) (append-nil new) (piece at n (at + n) new [] p (here (at + n)))
 Reaches-more bytes _ _ n _ new (piece at k middle ts rest q r) p =
     subst (Reaches bytes at (middle + n)) (sym (append_assoc ts rest new)) (piece at k (middle + n) ts (rest ++ new) q (Reaches-more bytes (at + k) middle n rest new r p))
-
--- no piece stands at a place
-abbrev pub HasNoPiece : List ℕ → ℕ → Type 0
-HasNoPiece bytes at = (n : ℕ) (tokens : List Token) → IsPiece bytes at n tokens → ⊥
 
 no_way : (bytes : List ℕ) (at end : ℕ) (tokens : List Token) → HasNoPiece bytes at → Reaches bytes at end tokens → at < end → ⊥
 no_way bytes _ _ _ none (here at) lt = omega (arith, lt)

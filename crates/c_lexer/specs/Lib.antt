@@ -4,3 +4,4 @@ pub mod Numbers
 pub mod Literals
 pub mod Spellings
 pub mod Tokens
+pub mod Readings

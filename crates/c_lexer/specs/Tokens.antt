@@ -1,6 +1,6 @@
 -- The tokens of a unit. C99 6.4, 6.4.9; that `#` lines are skipped is a rule of this compiler.
-use Rattle.std.specs.Prelude.{◌≡◌, ℕ, ◌+◌, ◌≤◌, Bool, true, false, List, [], ◌∷◌, ◌++◌, length, take, drop, reverse, ◌==◌, ◌||◌, ◌&&◌, codes}
-use Rattle.std.specs.List.{AllByRecursion}
+use Rattle.std.specs.Prelude.{◌≡◌, ℕ, ◌+◌, ◌≤◌, Bool, true, false, List, [], ◌∷◌, ◌++◌, length, take, drop, reverse, ◌==◌, ◌||◌, ◌&&◌, not, codes}
+use Rattle.std.specs.List.{AllByRecursion, list_all, prefix_len}
 use Rattle.c_lexer.specs.declared.token.Token.{Token}
 use Rattle.c_lexer.specs.declared.token.TokenKind.{TokenKind}
 use Rattle.c_lexer.specs.Characters.{is_blank, newline}
@@ -44,14 +44,13 @@ pub record IsBlockComment (text : List ℕ) (n : ℕ) : Type 0 where
   pub first : has_close body ≡ false
   pub size : n ≡ 4 + length body
 
--- what stands before here on the same line, from the end to the front, is blank
-abbrev pub is_blank_back_to_newline : List ℕ → Bool
-is_blank_back_to_newline [] = true
-is_blank_back_to_newline (b ∷ before) = b == newline || (is_blank b && is_blank_back_to_newline before)
+-- what stands before here on the same line, from its end to its front
+abbrev pub line_front : List ℕ → List ℕ
+line_front before = let back = reverse before in take (prefix_len (λ b. not (b == newline)) back) back
 
 -- n bytes from here are a skipped line: `#` as the first byte of its line that is no blank, and what is left of the line
 pub record IsSkipped (before text : List ℕ) (n : ℕ) : Type 0 where
-  pub begins : is_blank_back_to_newline (reverse before) ≡ true
+  pub begins : list_all is_blank (line_front before) ≡ true
   pub body : List ℕ
   pub after : List ℕ
   pub split : text ≡ codes "#" ++ (body ++ after)

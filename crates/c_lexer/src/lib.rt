@@ -6,13 +6,31 @@
 // is none; the token at a place has the longest spelling there; a unit has the tokens of a path of
 // blanks, comments, skipped lines and tokens from its first byte to its end.
 //
-// The law: at each place there is one such piece at most, so a unit has one list of tokens at most
-// (`proofs/OneList.antt`).
+// The invariant of the walk: pieces lead from the first byte to the present place, with the tokens so
+// far. At each place there is one piece at most, so there is one way, and bytes have one list of tokens
+// at most (`proofs/OneList.antt`).
+//
+// The theorem, on `lex`: its answer is the list of tokens of the bytes, and any other list is equal to
+// it; where it answers that there is none, there is none, and the place is the farthest that pieces
+// reach.
+//
+// `piece` takes the piece at a place, with the help of `scan` (how far blanks, words and number runs go),
+// `number`, `literal` and `mark`; `lexer` goes from piece to piece.
 //
 // Source: C99 6.4 (lexical elements), 6.4.2 (identifiers), 6.4.4 (constants), 6.4.5 (string
 // literals), 6.4.6 (punctuators), 6.4.8 (preprocessing numbers), 6.4.9 (comments).
 #![tactic(auto)]
 
+mod lexer;
+mod literal;
+mod mark;
+mod number;
+mod piece;
+mod scan;
 mod token;
 
+pub use lexer::lex;
 pub use token::{IntType, LexFault, Punct, Token, TokenKind, Tokens};
+
+#[cfg(test)]
+mod tests;
