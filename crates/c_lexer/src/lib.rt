@@ -15,7 +15,7 @@
 // reach.
 //
 // `piece` takes the piece at a place, with the help of `scan` (how far blanks, words and number runs go),
-// `number`, `literal` and `mark`; `lexer` goes from piece to piece.
+// `number`, `literal` and `mark`; `lexer` goes from piece to piece. `place` counts lines and columns.
 //
 // Source: C99 6.4 (lexical elements), 6.4.2 (identifiers), 6.4.4 (constants), 6.4.5 (string
 // literals), 6.4.6 (punctuators), 6.4.8 (preprocessing numbers), 6.4.9 (comments).
@@ -26,10 +26,12 @@ mod literal;
 mod mark;
 mod number;
 mod piece;
+mod place;
 mod scan;
 mod token;
 
 pub use lexer::lex;
+pub use place::line_of;
 pub use token::{IntType, LexFault, Punct, Token, TokenKind, Tokens};
 
 #[cfg(test)]

@@ -1,5 +1,5 @@
 // Hard texts.
-use crate::{IntType, LexFault, Punct, TokenKind, lex};
+use crate::{IntType, LexFault, Punct, TokenKind, lex, line_of};
 use std::test::Fail;
 
 // A letter for each kind (a word; an int, unsigned int, long and unsigned long; a character; a string;
@@ -211,4 +211,14 @@ fn texts_without(rt: HostRuntime) {
             "{at}"
         );
     }
+}
+
+#[test]
+fn lines_and_columns(rt: HostRuntime) {
+    assert_eq!(rt; line_of(b"", 0), (1, 1));
+    assert_eq!(rt; line_of(b"ab\nc", 0), (1, 1));
+    assert_eq!(rt; line_of(b"ab\nc", 2), (1, 3));
+    assert_eq!(rt; line_of(b"ab\nc", 3), (2, 1));
+    assert_eq!(rt; line_of(b"ab\nc", 4), (2, 2));
+    assert_eq!(rt; line_of(b"\n\n", 2), (3, 1));
 }
