@@ -81,9 +81,6 @@ pub record Scanned (quote : ℕ) (text : List ℕ) (is_escaped : Bool) (index : 
   pub unclosed : (n : ℕ) → n < index → slice_index text n ≡ quote → is_inside quote (take n text) ≡ true → ⊥
 
 module _ (quote : ℕ) (text : List ℕ) where
-  byte : ℕ → ℕ
-  byte index = slice_index text index
-
   one_more : (index : ℕ) → index < length text → take (index + 1) text ≡ take index text ++ slice_index text index ∷ []
   one_more index lt = (take_at_read text index 0 lt).1
 

@@ -43,10 +43,6 @@ or_false : (b : Bool) → (b || false) ≡ b
 or_false true = refl
 or_false false = refl
 
--- the one test that is left of five
-left_of : (w n c s m : Bool) → Bool
-left_of w n c s m = w || (n || (c || (s || m)))
-
 pub spelled_as_word : (text : List ℕ) → class_of text ≡ 0 → is_spelling text ≡ is_word text
 unfolding is_spelling
 spelled_as_word text c =

@@ -18,10 +18,10 @@ use std::alloc::{AllocError, Global};
 use std::str;
 
 /// A token, with its size.
-type Sized = (usize, TokenKind);
+type SizedToken = (usize, TokenKind);
 
 /// The token that a text begins with.
-pub fn token_at(alloc: Global, text: &[u8]) -> Result<Option<Sized>, AllocError>
+pub fn token_at(alloc: Global, text: &[u8]) -> Result<Option<SizedToken>, AllocError>
     ensures found { IfOk result (λ o. IfSome o (λ t. IsTokenAt text.now t.0 t.1)) }
     ensures none { IfOk result (λ o. IfNone o (HasNoToken text.now)) }
 {
@@ -47,7 +47,7 @@ pub fn token_at(alloc: Global, text: &[u8]) -> Result<Option<Sized>, AllocError>
 }
 
 // The word that begins with a byte before this rest.
-fn word_at(alloc: Global, text: &[u8], rest: &[u8]) -> Result<Option<Sized>, AllocError>
+fn word_at(alloc: Global, text: &[u8], rest: &[u8]) -> Result<Option<SizedToken>, AllocError>
     requires { (a : ℕ) × (text.now ≡ a ∷ rest.now) × (is_nondigit a ≡ true) }
     ensures found { IfOk result (λ o. IfSome o (λ t. IsTokenAt text.now t.0 t.1)) }
     ensures none { IfOk result (λ o. IfNone o (HasNoToken text.now)) }
@@ -72,7 +72,7 @@ fn word(alloc: Global, text: &[u8]) -> Result<Name, AllocError>
 }
 
 // The integer constant that a number run is.
-fn number_at(text: &[u8], rest: &[u8]) -> Option<Sized>
+fn number_at(text: &[u8], rest: &[u8]) -> Option<SizedToken>
     requires { (begins_number text.now ≡ true) × (a : ℕ) × (text.now ≡ a ∷ rest.now) }
     ensures found { IfSome result (λ t. IsTokenAt text.now t.0 t.1) }
     ensures none { IfNone result (HasNoToken text.now) }
@@ -84,7 +84,7 @@ fn number_at(text: &[u8], rest: &[u8]) -> Option<Sized>
 }
 
 // The character constant whose quote stands before this text.
-fn character_at(alloc: Global, rest: &[u8]) -> Result<Option<Sized>, AllocError>
+fn character_at(alloc: Global, rest: &[u8]) -> Result<Option<SizedToken>, AllocError>
     ensures found { IfOk result (λ o. IfSome o (λ t. IsTokenAt (39 ∷ rest.now) t.0 t.1)) }
     ensures none { IfOk result (λ o. IfNone o (HasNoToken (39 ∷ rest.now))) }
 {
@@ -113,7 +113,7 @@ fn only_byte(text: &[u8]) -> Option<u8>
 }
 
 // The string literal whose quote stands before this text.
-fn string_at(alloc: Global, rest: &[u8]) -> Result<Option<Sized>, AllocError>
+fn string_at(alloc: Global, rest: &[u8]) -> Result<Option<SizedToken>, AllocError>
     ensures found { IfOk result (λ o. IfSome o (λ t. IsTokenAt (34 ∷ rest.now) t.0 t.1)) }
     ensures none { IfOk result (λ o. IfNone o (HasNoToken (34 ∷ rest.now))) }
 {
