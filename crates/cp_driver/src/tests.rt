@@ -100,12 +100,14 @@ fn names(alloc: Global, words: &[&str]) -> Result<Names, AllocError> {
     Ok(names)
 }
 
-// A call with these words, on one file `hi.c` of this text.
+// A call with these words, on files `hi.c`, `r1.c` and `r2.c`, each of this text.
 fn call(alloc: Global, words: &[&str], text: &[u8], host: Host) -> Result<Outcome, AllocError>
     requires { 0 < host.piece }
 {
     let mut files = MemFiles::new(alloc);
-    files.add("hi.c", text)?;
+    for name in ["hi.c", "r1.c", "r2.c"] {
+        files.add(name, text)?;
+    }
     files.fail(host.read)?;
     let mut out = MemSink::new(alloc, host.piece, 4096)?;
     out.fail(host.output)?;
@@ -163,13 +165,21 @@ fn missing_file(rt: HostRuntime) -> Result<(), Fail> {
 
 #[test]
 fn not_yet(rt: HostRuntime) -> Result<(), Fail> {
-    let units: [&[u8]; 2] = [
-        b"int main(void){return 7;}",
-        b"int putchar(int);int main(void){putchar(256);putchar(105);return 0;}",
+    let rows: [(&str, &[u8], &str); 2] = [
+        (
+            "r1.c",
+            b"int main(void){return 7;}",
+            "cparser: r1.c: not yet\n",
+        ),
+        (
+            "r2.c",
+            b"int putchar(int);int main(void){putchar(256);putchar(105);return 0;}",
+            "cparser: r2.c: not yet\n",
+        ),
     ];
-    for unit in units {
-        let outcome = call(rt.alloc(), &["cparser", "-S", "hi.c"], unit, NO_FAULT)?;
-        assert!(rt; is_refused(&outcome, 1, "cparser: hi.c: not yet\n"));
+    for (file, unit, line) in rows {
+        let outcome = call(rt.alloc(), &["cparser", "-S", file], unit, NO_FAULT)?;
+        assert!(rt; is_refused(&outcome, 1, line), "{file}");
     }
     Ok(())
 }
@@ -177,7 +187,7 @@ fn not_yet(rt: HostRuntime) -> Result<(), Fail> {
 // Words that are no job give the usage line, and read no file: the first read is still to come.
 #[test]
 fn usage(rt: HostRuntime) -> Result<(), Fail> {
-    let rows: [&[&str]; 19] = [
+    let rows: [&[&str]; 21] = [
         &[],
         &["cparser"],
         &["cparser", ""],
@@ -197,6 +207,8 @@ fn usage(rt: HostRuntime) -> Result<(), Fail> {
         &["cparser", "--"],
         &["cparser", "--", "-S", "b"],
         &["cparser", "--S", "hi.c"],
+        &["cparser", "--regs", "7", "r1.c"],
+        &["cparser", "--run", "E", "--interpret", "E", "r1.c"],
     ];
     let host = Host {
         read: 1,
