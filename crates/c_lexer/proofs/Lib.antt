@@ -9,3 +9,4 @@ pub mod Characters
 pub mod Longest
 pub mod TokensAt
 pub mod Blanks
+pub mod MarkTexts

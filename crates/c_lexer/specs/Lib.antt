@@ -5,3 +5,5 @@ pub mod Literals
 pub mod Spellings
 pub mod Tokens
 pub mod Readings
+pub mod Dump
+pub mod Places

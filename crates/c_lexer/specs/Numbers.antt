@@ -28,7 +28,7 @@ is_number_run text = begins_number text && list_all continues_number (zip text (
 abbrev pub begins_hexadecimal : List ℕ → Bool
 begins_hexadecimal text = slice_index text 0 == 48 && is_one_of (codes "xX") (slice_index text 1)
 
--- a base, and digits of it
+-- a base, and at least one digit of it
 abbrev pub in_base : ℕ → (ℕ → Bool) → List ℕ → Option (ℕ × List ℕ)
 in_base base is_class digits = if length digits == 0 then None else (if list_all is_class digits then Some (base, digits) else None)
 

@@ -13,7 +13,7 @@ pub record Begins (text : List ℕ) (value : ℕ) (rest : List ℕ) : Type 0 whe
   pub only : (bytes : List ℕ) → StandsFor text bytes → (more : List ℕ) × (bytes ≡ value ∷ more) × StandsFor rest more
   pub shorter : length rest < length text
 
--- the text begins with no character
+-- the text stands for no bytes, unless it is empty
 abbrev pub HasNone : List ℕ → Type 0
 HasNone text = (bytes : List ℕ) → StandsFor text bytes → text ≡ []
 

@@ -1,5 +1,5 @@
 // From bytes to tokens.
-ghost use Rattle.std.specs.Prelude.{◌≡◌, ◌++◌, ℕ, List, IfOk, IfErr, OnOk};
+ghost use Rattle.std.specs.Prelude.{◌≡◌, ◌++◌, ◌≤◌, ℕ, List, length, IfOk, IfErr, OnOk};
 ghost use Rattle.c_lexer.specs.declared.token.Token.{Token};
 ghost use Rattle.c_lexer.specs.declared.token.LexFault.TheVariants.{Lexical};
 ghost use Rattle.c_lexer.specs.Readings.{tokens_of};
@@ -27,6 +27,7 @@ pub fn lex(alloc: Global, bytes: &[u8]) -> Result<Tokens, LexFault>
     ensures found { IfOk result (λ tokens. HasTokens bytes.now tokens) }
     ensures only { IfOk result (λ tokens. (other : List Token) → HasTokens bytes.now other → other ≡ tokens) }
     ensures lexical { IfErr result (λ fault. (at : ℕ) → fault ≡ Lexical at → IsLexical bytes.now at) }
+    ensures within { IfErr result (λ fault. (at : ℕ) → fault ≡ Lexical at → at ≤ length bytes.now) }
 {
     let mut tokens = Items::new(alloc);
     let mut at = 0;

@@ -15,12 +15,14 @@
 // reach.
 //
 // `piece` takes the piece at a place, with the help of `scan` (how far blanks, words and number runs go),
-// `number`, `literal` and `mark`; `lexer` goes from piece to piece. `place` counts lines and columns.
+// `number`, `literal` and `mark`; `lexer` goes from piece to piece. `place` counts lines and columns, `dump`
+// writes a token list as text.
 //
 // Source: C99 6.4 (lexical elements), 6.4.2 (identifiers), 6.4.4 (constants), 6.4.5 (string
 // literals), 6.4.6 (punctuators), 6.4.8 (preprocessing numbers), 6.4.9 (comments).
 #![tactic(auto)]
 
+mod dump;
 mod lexer;
 mod literal;
 mod mark;
@@ -30,6 +32,7 @@ mod place;
 mod scan;
 mod token;
 
+pub use dump::tokens_text;
 pub use lexer::lex;
 pub use place::line_of;
 pub use token::{IntType, LexFault, Punct, Token, TokenKind, Tokens};

@@ -1,5 +1,5 @@
 // Hard texts.
-use crate::{IntType, LexFault, Punct, TokenKind, lex, line_of};
+use crate::{IntType, LexFault, Punct, TokenKind, lex, line_of, tokens_text};
 use std::test::Fail;
 
 // A letter for each kind (a word; an int, unsigned int, long and unsigned long; a character; a string;
@@ -221,4 +221,17 @@ fn lines_and_columns(rt: HostRuntime) {
     assert_eq!(rt; line_of(b"ab\nc", 3), (2, 1));
     assert_eq!(rt; line_of(b"ab\nc", 4), (2, 2));
     assert_eq!(rt; line_of(b"\n\n", 2), (3, 1));
+}
+
+#[test]
+fn a_token_list_as_text(rt: HostRuntime) {
+    let Ok(tokens) = lex(rt.alloc(), b"x<<=0x1F \"bc\" '\\n';") else {
+        panic!(rt; "no tokens");
+    };
+    let Ok(text) = tokens_text(rt.alloc(), &tokens) else {
+        panic!(rt; "no text");
+    };
+    let wanted =
+        b"0 1 word x\n1 4 punct <<=\n4 8 int 31\n9 13 string 2\n14 18 char 10\n18 19 punct ;\n";
+    assert!(rt; text.as_slice() == wanted.as_slice());
 }

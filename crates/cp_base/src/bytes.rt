@@ -1,6 +1,7 @@
 // Bytes that grow.
 ghost use Rattle.std.specs.Prelude.{◌≡◌, [], ◌++◌, OnOk, OnErr};
 
+use itoa::{Buffer, Integer};
 use std::alloc::{AllocError, Global};
 use std::marker::Model;
 
@@ -33,6 +34,15 @@ impl Bytes {
         ensures err { OnErr result (self.new ≡ self.old) }
     {
         self.bytes.extend_from_slice(piece)
+    }
+
+    /// Appends the number in decimal, or changes nothing.
+    pub fn push_number<I: Integer>(&mut self, number: I) -> Result<(), AllocError>
+        ensures ok { OnOk result (self.new ≡ self.old ++ I.text number) }
+        ensures err { OnErr result (self.new ≡ self.old) }
+    {
+        let mut buffer = Buffer::new();
+        self.push_all(buffer.format(number).as_bytes())
     }
 
     pub fn as_slice(&self) -> &[u8]

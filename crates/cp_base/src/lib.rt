@@ -33,7 +33,7 @@ pub use layout::Layout;
 pub use memory_files::MemFiles;
 pub use memory_sink::MemSink;
 pub use name::{Name, Names};
-pub use sink::{Failed, Sink, put_all};
+pub use sink::{Failed, Sink, put_all, put_number};
 pub use sqlite_items::Items;
 pub use system::{StdFiles, StdSink};
 

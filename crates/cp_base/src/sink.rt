@@ -1,6 +1,9 @@
 // Sinks, as a trait, and a piece written whole.
 ghost use Rattle.std.specs.Prelude.{◌≡◌, ℕ, List, Option, ◌≤◌, ◌<◌, length, take, IfOk, OnOk, OnErr};
+ghost use Rattle.std.specs.Fmt.{decimal};
 ghost use Rattle.cp_base.specs.Outside.{Rose, last_count, gained, GainsFront};
+
+use itoa::Buffer;
 
 /// A write failed.
 #[derive(Clone, Copy, Debug, PartialEq, Eq)]
@@ -42,4 +45,16 @@ pub fn put_all<S: Sink>(sink: &mut S, piece: &[u8]) -> Result<(), Failed>
         rest = left;
     }
     Ok(())
+}
+
+/// Writes the number in decimal.
+pub fn put_number<S: Sink>(sink: &mut S, number: u64) -> Result<(), Failed>
+    ensures count { S.faults sink.old ≤ S.faults sink.new }
+    ensures bound { S.faults sink.old ≤ last_count → S.faults sink.new ≤ last_count }
+    ensures ok { OnOk result (S.written sink.new ≡ gained (S.written sink.old) (decimal number)) }
+    ensures err { OnErr result (GainsFront (S.written sink.old) (S.written sink.new) (decimal number)) }
+    ensures failed { OnErr result (Rose (S.faults sink.old) (S.faults sink.new)) }
+{
+    let mut buffer = Buffer::new();
+    put_all(sink, buffer.format(number).as_bytes())
 }

@@ -1,219 +1,225 @@
 -- The answers of a call, from how it comes to them.
 use Rattle.std.proofs.Common.{◌≡◌, ℕ, ◌<◌, ◌≤◌, ◌⊎◌, inl, inr, Bool, false, List, length, Option, Some, None, refl, sym, ap, ◌∙◌, subst, arith}
-use Rattle.cp_base.specs.Outside.{Contents, Rose, Tells, Lacks, gained}
-use Rattle.rv_code.specs.declared.assembly.AsmUnit.{AsmUnit}
-use Rattle.rv_code.specs.Text.{text_of}
-use Rattle.rv_code.specs.WellFormed.{IsWellFormed}
-use Rattle.cp_first.specs.FirstForm.{IsFirst, IsNotFirst}
-use Rattle.cp_first.specs.FirstAssembly.{MachineWrites, IsAssemblyOf}
+use Rattle.cp_base.specs.Outside.{Contents, Rose, Tells, Lacks}
+use Rattle.cp_driver.specs.declared.job.Task.{Task}
 use Rattle.cp_driver.specs.declared.report.Fault.{Fault}
-use Rattle.cp_driver.specs.declared.report.Fault.TheVariants.{Usage, ReadFault, WriteFault, TooLong, NotYet, OutOfMemory}
+use Rattle.cp_driver.specs.declared.report.Fault.TheVariants.{Lexical, Usage, ReadFault, WriteFault, TooLong, NotYet, OutOfMemory}
 use Rattle.cp_driver.specs.declared.report.Report.{Report}
 use Rattle.cp_driver.specs.declared.report.Done.{Done}
-use Rattle.cp_driver.specs.Jobs.{Job, Compile, file_of}
+use Rattle.cp_driver.specs.Jobs.{Job, file_of}
+use Rattle.cp_driver.specs.Making.{Refuses}
 use Rattle.cp_driver.specs.Messages.{IsTold}
-use Rattle.cp_driver.specs.Answers.{file_limit, NoFault, Compiles, IsRead, Call, Because, LeavesOutput, IsCompiled, ComesTo, ComesAfterRead, Answers}
-use Rattle.cp_driver.specs.Causes.{CompileCause, Cause, Leaves}
-
--- ---- a file that was compiled
+use Rattle.cp_driver.specs.Answers.{file_limit, NoFault, IsRead, RefusesFile, Call, Because, LeavesOutput, IsMade, ComesTo, ComesAfterRead, Answers}
+use Rattle.cp_driver.specs.Causes.{MakeCause, Cause, Leaves}
+use Rattle.cp_driver.proofs.Makings.{IsAccepted, accepts_made, one_refusal}
 
 -- told contents have a file or lack it
 one_of_both : (contents : Option Contents) (file bytes : List ℕ) → Tells contents file bytes → Lacks contents file → ⊥
 one_of_both None file bytes h k = absurd h
 one_of_both (Some files) file bytes h k = absurd (cc (h, k))
 
-pub one_job : (job : Option Job) (file other : List ℕ) → job ≡ Some (Compile file) → job ≡ Some (Compile other) → file ≡ other
-one_job job file other e f = cc (e, f)
+abbrev pub Asks : Option Job → Task → List ℕ → Type 0
+Asks job task file = job ≡ Some (record { task = task; file = file })
 
-no_and_one : (job : Option Job) (file : List ℕ) → job ≡ None → job ≡ Some (Compile file) → ⊥
-no_and_one job file e f = absurd (cc (e, f))
+-- the job that is asked for, or else this one
+job_or : Job → Option Job → Job
+job_or other None = other
+job_or other (Some job) = job
 
-module _ (contents : Option Contents) (report : Report) (out out' : Option (List ℕ)) (file : List ℕ) (c : IsCompiled contents report out out' file) where
-  -- the assembly is that of the unit that the file's text is
-  assembly_of : (text : List ℕ) → Tells contents file text → IsAssemblyOf text report.asm
-  assembly_of text told = subst (λ t. IsAssemblyOf t report.asm) (c.read.told text told) c.assembly
+pub one_job : (asked : Option Job) (job other : Job) → asked ≡ Some job → asked ≡ Some other → job ≡ other
+unfolding job_or
+one_job asked job other e f = ap (job_or job) (sym e ∙ f)
 
-  pub compiled : (text bytes : List ℕ) (status : ℕ) (err : Option (List ℕ)) → Tells contents file text → IsFirst text bytes status → Compiles bytes status (record { status = 0; fault = None; report = Some report }) out out' err err
-  compiled text bytes status err told first =
-      let assembly = assembly_of text told in
-      let unit = assembly.unit bytes status first in
-      record {
-        ended = refl;
-        no_fault = refl;
-        report = ap (λ (asm : AsmUnit). Some (record { asm = asm })) unit;
-        well_formed = subst IsWellFormed unit assembly.well_formed;
-        written = c.written ∙ ap (λ asm. gained out (text_of asm)) unit;
-        silent = refl;
-      }
+no_and_one : (job : Option Job) (task : Task) (file : List ℕ) → job ≡ None → Asks job task file → ⊥
+no_and_one job task file e f = absurd (cc (e, f))
 
-  pub compiled_writes : (text bytes : List ℕ) (status : ℕ) → Tells contents file text → IsFirst text bytes status → MachineWrites report.asm bytes status
-  compiled_writes text bytes status told first = (assembly_of text told).runs bytes status first
+-- a file that was read is within the limit
+read_is_short : (contents : Option Contents) (read file text : List ℕ) → IsRead contents file read → Tells contents file text → file_limit < length text → ⊥
+read_is_short contents read file text r told long = let same = ap length (r.told text told) in let within = r.within in omega (arith, long, same, within)
 
-  not_other : (text : List ℕ) → Tells contents file text → IsNotFirst text → ⊥
-  not_other text told other = let first = (assembly_of text told).first in other first.0 first.1 first.2
-
-  not_long : (text : List ℕ) → Tells contents file text → file_limit < length text → ⊥
-  not_long text told long = let same = ap length (c.read.told text told) in let within = c.read.within in omega (arith, long, same, within)
-
--- ---- faults
+-- bytes that a task makes nothing of
+pub make_cause : (fault : Fault) (task : Task) (file bytes : List ℕ) (contents : Option Contents) (reads reads' writes writes' : ℕ) → IsRead contents file bytes → MakeCause fault task bytes → Cause fault contents reads reads' writes writes' bytes task file
+make_cause (Lexical at) task file bytes contents reads reads' writes writes' r h = (r, h)
+make_cause NotYet task file bytes contents reads reads' writes writes' r h = (r, h)
+make_cause OutOfMemory task file bytes contents reads reads' writes writes' r h = tt
+make_cause Usage task file bytes contents reads reads' writes writes' r h = absurd h
+make_cause (ReadFault input) task file bytes contents reads reads' writes writes' r h = absurd h
+make_cause (TooLong input) task file bytes contents reads reads' writes writes' r h = absurd h
+make_cause WriteFault task file bytes contents reads reads' writes writes' r h = absurd h
 
 -- the fault that comes first, where this is why
 abbrev IsFirstFault : Fault → Fault → Type 0
 IsFirstFault fault wanted = (fault ≡ wanted) ⊎ (fault ≡ OutOfMemory)
 
--- a text that is not compiled
-pub compile_cause : (fault : Fault) (file text : List ℕ) (contents : Option Contents) (reads reads' writes writes' : ℕ) → IsRead contents file text → CompileCause fault text → Cause fault contents reads reads' writes writes' file
-compile_cause NotYet file text contents reads reads' writes writes' r h = (text, r, h)
-compile_cause OutOfMemory file text contents reads reads' writes writes' r h = tt
-compile_cause Usage file text contents reads reads' writes writes' r h = absurd h
-compile_cause (ReadFault input) file text contents reads reads' writes writes' r h = absurd h
-compile_cause (TooLong input) file text contents reads reads' writes writes' r h = absurd h
-compile_cause WriteFault file text contents reads reads' writes writes' r h = absurd h
-
 module _ (job : Option Job) (done : Done) (call : Call) where
-  -- why the file's text is not written, and what the output has gained by then
-  abbrev Stops : Fault → List ℕ → Type 0
-  Stops fault file = Cause fault call.contents call.read_faults call.read_faults' call.write_faults call.write_faults' file × Leaves fault call.contents call.out call.out' file
+  -- why the job is not done, and what the output has gained by then
+  abbrev Stops : Fault → List ℕ → Task → List ℕ → Type 0
+  Stops fault bytes task file = Cause fault call.contents call.read_faults call.read_faults' call.write_faults call.write_faults' bytes task file × Leaves fault call.contents call.out call.out' task file
 
-  abbrev Told : Fault → Type 0
-  Told fault = IsTold fault (file_of job) done call.line_faults call.line_faults' call.err call.err'
+  abbrev Told : Fault → List ℕ → Type 0
+  Told fault bytes = IsTold fault (file_of job) bytes done call.line_faults call.line_faults' call.err call.err'
 
   -- the same, or a read that failed
   abbrev IsFirstAfterRead : Fault → Fault → Type 0
   IsFirstAfterRead fault wanted = ((fault ≡ ReadFault false) × Rose call.read_faults call.read_faults') ⊎ IsFirstFault fault wanted
 
-  because : (fault : Fault) (file : List ℕ) → job ≡ Some (Compile file) → Stops fault file → Because fault job call
-  because NotYet file e s = (file, e, s.0)
-  because WriteFault file e s = s.0
-  because (ReadFault input) file e s = (file, e, s.0)
-  because (TooLong input) file e s = (file, e, s.0)
-  because OutOfMemory file e s = tt
-  because Usage file e s = absurd s.0
+  because : (fault : Fault) (bytes : List ℕ) (task : Task) (file : List ℕ) → Asks job task file → Stops fault bytes task file → Because fault job bytes call
+  because (Lexical at) bytes task file e s = record { task = task; file = file; asked = e; holds = s.0 }
+  because NotYet bytes task file e s = record { task = task; file = file; asked = e; holds = s.0 }
+  because (ReadFault input) bytes task file e s = record { task = task; file = file; asked = e; holds = s.0 }
+  because (TooLong input) bytes task file e s = record { task = task; file = file; asked = e; holds = s.0 }
+  because WriteFault bytes task file e s = s.0
+  because OutOfMemory bytes task file e s = tt
+  because Usage bytes task file e s = absurd s.0
 
-  leaves_output : (fault : Fault) (file : List ℕ) → job ≡ Some (Compile file) → Stops fault file → LeavesOutput fault job call
-  leaves_output WriteFault file e s = (file, e, s.1)
-  leaves_output NotYet file e s = s.1
-  leaves_output (ReadFault input) file e s = s.1
-  leaves_output (TooLong input) file e s = s.1
-  leaves_output OutOfMemory file e s = s.1
-  leaves_output Usage file e s = absurd s.0
+  leaves_output : (fault : Fault) (bytes : List ℕ) (task : Task) (file : List ℕ) → Asks job task file → Stops fault bytes task file → LeavesOutput fault job call
+  leaves_output WriteFault bytes task file e s = record { task = task; file = file; asked = e; holds = s.1 }
+  leaves_output (Lexical at) bytes task file e s = s.1
+  leaves_output NotYet bytes task file e s = s.1
+  leaves_output (ReadFault input) bytes task file e s = s.1
+  leaves_output (TooLong input) bytes task file e s = s.1
+  leaves_output OutOfMemory bytes task file e s = s.1
+  leaves_output Usage bytes task file e s = absurd s.0
 
   -- the fault is answered, unless its line could not be written
-  comes : (fault wanted : Fault) → Told fault → IsFirstFault fault wanted → ComesTo wanted done call
-  comes fault wanted (inl t) (inl e) = inl (ap (λ d. d.fault) t.0 ∙ ap Some e)
-  comes fault wanted (inl t) (inr e) = inr (inr (ap (λ d. d.fault) t.0 ∙ ap Some e))
-  comes fault wanted (inr t) e = inr (inl (ap (λ d. d.fault) t.0, t.1))
+  comes : (fault wanted : Fault) (bytes : List ℕ) → Told fault bytes → IsFirstFault fault wanted → ComesTo wanted done call
+  comes fault wanted bytes (inl t) (inl e) = inl (ap (λ d. d.fault) t.0 ∙ ap Some e)
+  comes fault wanted bytes (inl t) (inr e) = inr (inr (ap (λ d. d.fault) t.0 ∙ ap Some e))
+  comes fault wanted bytes (inr t) e = inr (inl (ap (λ d. d.fault) t.0, t.1))
 
   -- the same, where a failed read may come before
-  comes_after_read : (fault wanted : Fault) → Told fault → IsFirstAfterRead fault wanted → ComesAfterRead wanted done call
-  comes_after_read fault wanted (inl t) (inl e) = inl (ap (λ d. d.fault) t.0 ∙ ap Some e.0, e.1)
-  comes_after_read fault wanted (inr t) (inl e) = inr (inr (inl (ap (λ d. d.fault) t.0, t.1)))
-  comes_after_read fault wanted t (inr e) = inr (comes fault wanted t e)
+  comes_after_read : (fault wanted : Fault) (bytes : List ℕ) → Told fault bytes → IsFirstAfterRead fault wanted → ComesAfterRead wanted done call
+  comes_after_read fault wanted bytes (inl t) (inl e) = inl (ap (λ d. d.fault) t.0 ∙ ap Some e.0, e.1)
+  comes_after_read fault wanted bytes (inr t) (inl e) = inr (inr (inl (ap (λ d. d.fault) t.0, t.1)))
+  comes_after_read fault wanted bytes t (inr e) = inr (comes fault wanted bytes t e)
 
   -- why a write fault is answered
-  write_cause : (fault : Fault) → Because fault job call → Told fault → done.fault ≡ Some WriteFault → Rose call.write_faults call.write_faults' ⊎ Rose call.line_faults call.line_faults'
-  write_cause fault b (inl t) e = let same : fault ≡ WriteFault = cc (ap (λ d. d.fault) t.0, e) in inl (subst (λ f. Because f job call) same b)
-  write_cause fault b (inr t) e = inr t.1
+  write_cause : (fault : Fault) (bytes : List ℕ) → Because fault job bytes call → Told fault bytes → done.fault ≡ Some WriteFault → Rose call.write_faults call.write_faults' ⊎ Rose call.line_faults call.line_faults'
+  write_cause fault bytes b (inl t) e = let same : fault ≡ WriteFault = cc (ap (λ d. d.fault) t.0, e) in inl (subst (λ f. Because f job bytes call) same b)
+  write_cause fault bytes b (inr t) e = inr t.1
 
   -- ---- which fault comes first
 
-  first_lacking : (fault : Fault) (file : List ℕ) → Stops fault file → Lacks call.contents file → IsFirstFault fault (ReadFault false)
-  first_lacking (ReadFault input) file s lacks = inl (ap ReadFault s.0.0)
-  first_lacking (TooLong input) file s lacks = absurd (s.0.1.1 lacks)
-  first_lacking NotYet file s lacks = absurd (s.0.1.there lacks)
-  first_lacking WriteFault file s lacks = absurd (s.1.2.there lacks)
-  first_lacking OutOfMemory file s lacks = inr refl
-  first_lacking Usage file s lacks = absurd s.0
+  first_lacking : (fault : Fault) (bytes : List ℕ) (task : Task) (file : List ℕ) → Stops fault bytes task file → Lacks call.contents file → IsFirstFault fault (ReadFault false)
+  first_lacking (ReadFault input) bytes task file s lacks = inl (ap ReadFault s.0.0)
+  first_lacking (TooLong input) bytes task file s lacks = absurd (s.0.1.1 lacks)
+  first_lacking (Lexical at) bytes task file s lacks = absurd (s.0.0.there lacks)
+  first_lacking NotYet bytes task file s lacks = absurd (s.0.0.there lacks)
+  first_lacking WriteFault bytes task file s lacks = absurd (s.1.read.there lacks)
+  first_lacking OutOfMemory bytes task file s lacks = inr refl
+  first_lacking Usage bytes task file s lacks = absurd s.0
 
-  -- a file that is told and could not be read
-  read_failed : (input : Bool) (wanted : Fault) (file text : List ℕ) → Tells call.contents file text → Stops (ReadFault input) file → IsFirstAfterRead (ReadFault input) wanted
-  read_failed input wanted file text told ((same, inl rose), left) = inl (ap ReadFault same, rose)
-  read_failed input wanted file text told ((same, inr lacks), left) = absurd (one_of_both call.contents file text told lacks)
+  module _ (task : Task) (file text : List ℕ) (told : Tells call.contents file text) where
+    -- a file that is told and could not be read
+    read_failed : (input : Bool) (wanted : Fault) (bytes : List ℕ) → Stops (ReadFault input) bytes task file → IsFirstAfterRead (ReadFault input) wanted
+    read_failed input wanted bytes ((same, inl rose), left) = inl (ap ReadFault same, rose)
+    read_failed input wanted bytes ((same, inr lacks), left) = absurd (one_of_both call.contents file text told lacks)
 
-  -- a text that was read is within the limit
-  read_is_short : (read file text : List ℕ) → IsRead call.contents file read → Tells call.contents file text → file_limit < length text → ⊥
-  read_is_short read file text r told long = let same = ap length (r.told text told) in let within = r.within in omega (arith, long, same, within)
+    first_long : (fault : Fault) (bytes : List ℕ) → Stops fault bytes task file → file_limit < length text → IsFirstAfterRead fault (TooLong false)
+    first_long (ReadFault input) bytes s long = read_failed input (TooLong false) bytes s
+    first_long (TooLong input) bytes s long = inr (inl (ap TooLong s.0.0))
+    first_long (Lexical at) bytes s long = absurd (read_is_short call.contents bytes file text s.0.0 told long)
+    first_long NotYet bytes s long = absurd (read_is_short call.contents bytes file text s.0.0 told long)
+    first_long WriteFault bytes s long = absurd (read_is_short call.contents s.1.bytes file text s.1.read told long)
+    first_long OutOfMemory bytes s long = inr (inr refl)
+    first_long Usage bytes s long = absurd s.0
 
-  first_long : (fault : Fault) (file text : List ℕ) → Stops fault file → Tells call.contents file text → file_limit < length text → IsFirstAfterRead fault (TooLong false)
-  first_long (ReadFault input) file text s told long = read_failed input (TooLong false) file text told s
-  first_long (TooLong input) file text s told long = inr (inl (ap TooLong s.0.0))
-  first_long NotYet file text s told long = absurd (read_is_short s.0.0 file text s.0.1 told long)
-  first_long WriteFault file text s told long = absurd (read_is_short s.1.0 file text s.1.2 told long)
-  first_long OutOfMemory file text s told long = inr (inr refl)
-  first_long Usage file text s told long = absurd s.0
+    -- the bytes that were read are those that are told
+    refuses_told : (fault : Fault) (bytes : List ℕ) → RefusesFile fault call.contents bytes task file → Refuses task text fault
+    refuses_told fault bytes r = subst (λ b. Refuses task b fault) (r.0.told text told) r.1
 
-  first_other : (fault : Fault) (file text : List ℕ) → Stops fault file → Tells call.contents file text → length text ≤ file_limit → IsNotFirst text → IsFirstAfterRead fault NotYet
-  first_other (ReadFault input) file text s told le other = read_failed input NotYet file text told s
-  first_other (TooLong input) file text s told le other = let long = s.0.1.0 text told in absurd (omega (arith, long, le))
-  first_other NotYet file text s told le other = inr (inl refl)
-  first_other WriteFault file text s told le other =
-      let first = s.1.3.first in absurd (other first.0 first.1 (subst (λ t. IsFirst t first.0 first.1) (s.1.2.told text told) first.2))
-  first_other OutOfMemory file text s told le other = inr (inr refl)
-  first_other Usage file text s told le other = absurd s.0
+    first_refused : (fault wanted : Fault) (bytes : List ℕ) → Stops fault bytes task file → length text ≤ file_limit → Refuses task text wanted → IsFirstAfterRead fault wanted
+    first_refused (ReadFault input) wanted bytes s le r = read_failed input wanted bytes s
+    first_refused (TooLong input) wanted bytes s le r = let long = s.0.1.0 text told in absurd (omega (arith, long, le))
+    first_refused (Lexical at) wanted bytes s le r = inr (inl (one_refusal task text (Lexical at) wanted (refuses_told (Lexical at) bytes s.0) r))
+    first_refused NotYet wanted bytes s le r = inr (inl (one_refusal task text NotYet wanted (refuses_told NotYet bytes s.0) r))
+    first_refused WriteFault wanted bytes s le r =
+        absurd (accepts_made task s.1.bytes s.1.text s.1.report s.1.makes wanted (subst (λ b. Refuses task b wanted) (sym (s.1.read.told text told)) r))
+    first_refused OutOfMemory wanted bytes s le r = inr (inr refl)
+    first_refused Usage wanted bytes s le r = absurd s.0
 
   -- ---- whole answers
 
   -- the words are no job
-  pub answers_no_job : job ≡ None → call.out' ≡ call.out → Told Usage → Answers job done call
-  answers_no_job e o t = record {
-    either = inr (record { fault = Usage; because = e; output = o; told = t });
-    usage = λ f. comes Usage Usage t (inl refl);
-    lacking = λ file f lacks. absurd (no_and_one job file e f);
-    too_long = λ file text f told long. absurd (no_and_one job file e f);
-    not_yet = λ file text f told le other. absurd (no_and_one job file e f);
-    write_fault = write_cause Usage e t;
+  pub answers_no_job : (bytes : List ℕ) → job ≡ None → call.out' ≡ call.out → Told Usage bytes → Answers job done call
+  answers_no_job bytes e o t = record {
+    either = inr (record { fault = Usage; bytes = bytes; because = e; output = o; told = t });
+    usage = λ f. comes Usage Usage bytes t (inl refl);
+    lacking = λ task file f lacks. absurd (no_and_one job task file e f);
+    too_long = λ task file text f told long. absurd (no_and_one job task file e f);
+    refused = λ task file text fault f told le r. absurd (no_and_one job task file e f);
+    write_fault = write_cause Usage bytes e t;
   }
 
   -- memory was wanting before the job was known
-  pub answers_no_memory : call.out' ≡ call.out → Told OutOfMemory → Answers job done call
-  answers_no_memory o t = record {
-    either = inr (record { fault = OutOfMemory; because = tt; output = o; told = t });
-    usage = λ f. comes OutOfMemory Usage t (inr refl);
-    lacking = λ file f lacks. comes OutOfMemory (ReadFault false) t (inr refl);
-    too_long = λ file text f told long. inr (comes OutOfMemory (TooLong false) t (inr refl));
-    not_yet = λ file text f told le other. inr (comes OutOfMemory NotYet t (inr refl));
-    write_fault = write_cause OutOfMemory tt t;
+  pub answers_no_memory : (bytes : List ℕ) → call.out' ≡ call.out → Told OutOfMemory bytes → Answers job done call
+  answers_no_memory bytes o t = record {
+    either = inr (record { fault = OutOfMemory; bytes = bytes; because = tt; output = o; told = t });
+    usage = λ f. comes OutOfMemory Usage bytes t (inr refl);
+    lacking = λ task file f lacks. comes OutOfMemory (ReadFault false) bytes t (inr refl);
+    too_long = λ task file text f told long. inr (comes OutOfMemory (TooLong false) bytes t (inr refl));
+    refused = λ task file text fault f told le r. inr (comes OutOfMemory fault bytes t (inr refl));
+    write_fault = write_cause OutOfMemory bytes tt t;
   }
 
-  module _ (file : List ℕ) (e : job ≡ Some (Compile file)) where
-    same_file : (P : List ℕ → Type 0) (other : List ℕ) → job ≡ Some (Compile other) → P other → P file
-    same_file P other f h = subst P (one_job job other file f e) h
+  module _ (task : Task) (file : List ℕ) (e : Asks job task file) where
+    -- what holds of the task and the file that the words ask for holds of these
+    of_asked : (P : Task → List ℕ → Type 0) (other : Task) (word : List ℕ) → Asks job other word → P other word → P task file
+    of_asked P other word f h = subst (λ j. P j.task j.file) (one_job job _ _ f e) h
 
-    -- the file's text was not written
-    pub answers_fault : (fault : Fault) → Stops fault file → IsTold fault file done call.line_faults call.line_faults' call.err call.err' → Answers job done call
-    answers_fault fault s told_of_file = record {
-      either = inr (record { fault = fault; because = because fault file e s; output = leaves_output fault file e s; told = t });
-      usage = λ f. absurd (no_and_one job file f e);
-      lacking = λ other f lacks. comes fault (ReadFault false) t (first_lacking fault file s (same_file (Lacks call.contents) other f lacks));
-      too_long = λ other text f told long. comes_after_read fault (TooLong false) t (first_long fault file text s (same_file (λ x. Tells call.contents x text) other f told) long);
-      not_yet = λ other text f told le form. comes_after_read fault NotYet t (first_other fault file text s (same_file (λ x. Tells call.contents x text) other f told) le form);
-      write_fault = write_cause fault (because fault file e s) t;
+    -- the job was not done
+    pub answers_fault : (fault : Fault) (bytes : List ℕ) → Stops fault bytes task file → IsTold fault file bytes done call.line_faults call.line_faults' call.err call.err' → Answers job done call
+    answers_fault fault bytes s told_of_file = record {
+      either = inr (record { fault = fault; bytes = bytes; because = why; output = leaves_output fault bytes task file e s; told = t });
+      usage = λ f. absurd (no_and_one job task file f e);
+      lacking = λ other word f lacks. comes fault (ReadFault false) bytes t (first_lacking fault bytes task file s (of_asked (λ _ w. Lacks call.contents w) other word f lacks));
+      too_long = λ other word text f told long. comes_after_read fault (TooLong false) bytes t (first_long task file text (of_asked (λ _ w. Tells call.contents w text) other word f told) fault bytes s long);
+      refused = λ other word text wanted f told le r. comes_after_read fault wanted bytes t
+          (first_refused task file text (of_asked (λ _ w. Tells call.contents w text) other word f told) fault wanted bytes s le (of_asked (λ u _. Refuses u text wanted) other word f r));
+      write_fault = write_cause fault bytes why t;
     }
       where
-        t : Told fault
-        t = subst (λ f. IsTold fault f done call.line_faults call.line_faults' call.err call.err') (sym (ap file_of e)) told_of_file
+        t : Told fault bytes
+        t = subst (λ f. IsTold fault f bytes done call.line_faults call.line_faults' call.err call.err') (sym (ap file_of e)) told_of_file
+
+        why : Because fault job bytes call
+        why = because fault bytes task file e s
 
     -- it was
-    pub answers_done : (report : Report) → done ≡ record { status = 0; fault = None; report = Some report } → IsCompiled call.contents report call.out call.out' file → call.err' ≡ call.err → Answers job done call
-    answers_done report d c silent = record {
-      either = inl (record { report = report; answer = d; compiled = (file, e, c); silent = silent });
-      usage = λ f. absurd (no_and_one job file f e);
-      lacking = λ other f lacks. absurd (c.read.there (same_file (Lacks call.contents) other f lacks));
-      too_long = λ other text f told long. absurd (not_long call.contents report call.out call.out' file c text (same_file (λ x. Tells call.contents x text) other f told) long);
-      not_yet = λ other text f told le form. absurd (not_other call.contents report call.out call.out' file c text (same_file (λ x. Tells call.contents x text) other f told) form);
+    pub answers_done : (report : Option Report) → done ≡ record { status = 0; fault = None; report = report } → IsMade call.contents report call.out call.out' task file → call.err' ≡ call.err → Answers job done call
+    answers_done report d m silent = record {
+      either = inl (record { report = report; answer = d; made = record { task = task; file = file; asked = e; holds = m }; silent = silent });
+      usage = λ f. absurd (no_and_one job task file f e);
+      lacking = λ other word f lacks. absurd (m.read.there (of_asked (λ _ w. Lacks call.contents w) other word f lacks));
+      too_long = λ other word text f told long. absurd (read_is_short call.contents m.bytes file text m.read (of_asked (λ _ w. Tells call.contents w text) other word f told) long);
+      refused = λ other word text wanted f told le r. absurd (accepts_made task m.bytes m.text report m.makes wanted
+          (subst (λ b. Refuses task b wanted) (sym (m.read.told text (of_asked (λ _ w. Tells call.contents w text) other word f told))) (of_asked (λ u _. Refuses u text wanted) other word f r)));
       write_fault = λ f. absurd (cc (d, f));
     }
 
--- where no count rose and memory was not wanting, a unit of the first form is not refused
-pub not_refused : (fault : Fault) (file text bytes : List ℕ) (status : ℕ) (contents : Option Contents) (reads reads' writes writes' lines lines' : ℕ) (done : Done) (err err' : Option (List ℕ)) →
-    Cause fault contents reads reads' writes writes' file → IsTold fault file done lines lines' err err' → NoFault reads reads' writes writes' lines lines' → (done.fault ≡ Some OutOfMemory → ⊥)
-    → Tells contents file text → length text ≤ file_limit → IsFirst text bytes status → ⊥
-not_refused (ReadFault input) file text bytes status contents reads reads' writes writes' lines lines' done err err' (same, inl rose) t n m told le first = n.read rose
-not_refused (ReadFault input) file text bytes status contents reads reads' writes writes' lines lines' done err err' (same, inr lacks) t n m told le first = one_of_both contents file text told lacks
-not_refused (TooLong input) file text bytes status contents reads reads' writes writes' lines lines' done err err' h t n m told le first = let long = h.1.0 text told in omega (arith, long, le)
-not_refused NotYet file text bytes status contents reads reads' writes writes' lines lines' done err err' h t n m told le first =
-    h.2 bytes status (subst (λ u. IsFirst u bytes status) (sym (h.1.told text told)) first)
-not_refused WriteFault file text bytes status contents reads reads' writes writes' lines lines' done err err' h t n m told le first = n.output h
-not_refused OutOfMemory file text bytes status contents reads reads' writes writes' lines lines' done err err' h (inl t) n m told le first = m (ap (λ d. d.fault) t.0)
-not_refused OutOfMemory file text bytes status contents reads reads' writes writes' lines lines' done err err' h (inr t) n m told le first = n.error t.1
-not_refused Usage file text bytes status contents reads reads' writes writes' lines lines' done err err' h t n m told le first = absurd h
+-- where no count rose and memory was not wanting, bytes that are accepted are not refused
+module _ (contents : Option Contents) (reads reads' writes writes' lines lines' : ℕ) (done : Done) (err err' : Option (List ℕ)) (file bytes text : List ℕ) (task : Task) where
+  not_refused : (fault : Fault) →
+      Cause fault contents reads reads' writes writes' bytes task file → IsTold fault file bytes done lines lines' err err' → NoFault reads reads' writes writes' lines lines' → (done.fault ≡ Some OutOfMemory → ⊥)
+      → Tells contents file text → length text ≤ file_limit → IsAccepted task text → ⊥
+  not_refused (ReadFault input) (same, inl rose) t n m told le ok = n.read rose
+  not_refused (ReadFault input) (same, inr lacks) t n m told le ok = one_of_both contents file text told lacks
+  not_refused (TooLong input) h t n m told le ok = let long = h.1.0 text told in omega (arith, long, le)
+  not_refused (Lexical at) h t n m told le ok = ok (Lexical at) (subst (λ b. Refuses task b (Lexical at)) (h.0.told text told) h.1)
+  not_refused NotYet h t n m told le ok = ok NotYet (subst (λ b. Refuses task b NotYet) (h.0.told text told) h.1)
+  not_refused WriteFault h t n m told le ok = n.output h
+  not_refused OutOfMemory h (inl t) n m told le ok = m (ap (λ d. d.fault) t.0)
+  not_refused OutOfMemory h (inr t) n m told le ok = n.error t.1
+  not_refused Usage h t n m told le ok = absurd h
+
+-- the same, of the job that is asked for
+pub job_not_refused : (contents : Option Contents) (reads reads' writes writes' lines lines' : ℕ) (done : Done) (err err' : Option (List ℕ)) (bytes text : List ℕ) (job other : Job) (fault : Fault) → job ≡ other
+    → Cause fault contents reads reads' writes writes' bytes job.task job.file → IsTold fault job.file bytes done lines lines' err err' → NoFault reads reads' writes writes' lines lines' → (done.fault ≡ Some OutOfMemory → ⊥)
+    → Tells contents other.file text → length text ≤ file_limit → IsAccepted other.task text → ⊥
+job_not_refused contents reads reads' writes writes' lines lines' done err err' bytes text job other fault e h t n m told le ok =
+    not_refused contents reads reads' writes writes' lines lines' done err err' other.file bytes text other.task fault
+    (subst (λ j. Cause fault contents reads reads' writes writes' bytes j.task j.file) e h) (subst (λ j. IsTold fault j.file bytes done lines lines' err err') e t) n m told le ok
+
+-- a line about bytes that are these
+pub told_of : (fault : Fault) (file bytes other : List ℕ) (done : Done) (lines lines' : ℕ) (err err' : Option (List ℕ)) → bytes ≡ other → IsTold fault file bytes done lines lines' err err' → IsTold fault file other done lines lines' err err'
+told_of fault file bytes other done lines lines' err err' e t = subst (λ b. IsTold fault file b done lines lines' err err') e t

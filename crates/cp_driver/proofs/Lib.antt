@@ -1,3 +1,5 @@
+pub mod PieceLaws
+pub mod Makings
 pub mod Answering
 pub mod CommandLine
 pub mod WordTable

@@ -1,13 +1,14 @@
--- Lists of words with the files that they ask to compile.
+-- Lists of words with the jobs that they ask for.
 use Rattle.std.proofs.Common.{◌≡◌, ℕ, List, [], ◌∷◌, Option, Some, None, refl}
 use Rattle.std.specs.Prelude.{codes, map, option_map}
 use Rattle.clap.proofs.OnLiterals.{clap_on_literals}
-use Rattle.cp_driver.specs.Jobs.{Compile, job_of}
+use Rattle.cp_driver.specs.declared.job.Stage.TheVariants.{Tokens}
+use Rattle.cp_driver.specs.Jobs.{Job, compile, dump, job_of}
 
 abbrev Words : Type 0
 Words = List (List ℕ)
 
--- the words after the program's name, and the file, or none where the words are no job
+-- the words after the program's name, and the file that they ask to compile, or none where they are no job
 abbrev rows : List (Words × Option (List ℕ))
 rows =
     -- files
@@ -69,12 +70,53 @@ rows =
     (codes "a" ∷ codes "--" ∷ codes "-S" ∷ [], None) ∷
     (codes "-S" ∷ codes "--" ∷ codes "-S" ∷ [], Some (codes "-S")) ∷ []
 
-words_ask : map (λ row. job_of (codes "cparser" ∷ row.0)) rows ≡ map (λ row. option_map Compile row.1) rows
+words_ask : map (λ row. job_of (codes "cparser" ∷ row.0)) rows ≡ map (λ row. option_map compile row.1) rows
 unfolding job_of clap_on_literals
 words_ask = refl
 
+-- the words after the program's name, and the job, where `--dump` is among them
+abbrev dump_rows : List (Words × Option Job)
+dump_rows =
+    (codes "--dump" ∷ codes "tokens" ∷ codes "f" ∷ [], Some (dump Tokens (codes "f"))) ∷
+    (codes "--dump=tokens" ∷ codes "f" ∷ [], Some (dump Tokens (codes "f"))) ∷
+    (codes "f" ∷ codes "--dump" ∷ codes "tokens" ∷ [], Some (dump Tokens (codes "f"))) ∷
+    (codes "f" ∷ codes "--dump=tokens" ∷ [], Some (dump Tokens (codes "f"))) ∷
+    (codes "--dump" ∷ codes "tokens" ∷ codes "-" ∷ [], Some (dump Tokens (codes "-"))) ∷
+    (codes "--dump" ∷ codes "tokens" ∷ codes "--" ∷ codes "-S" ∷ [], Some (dump Tokens (codes "-S"))) ∷
+    (codes "--dump" ∷ codes "tokens" ∷ codes "tokens" ∷ [], Some (dump Tokens (codes "tokens"))) ∷
+    (codes "--" ∷ codes "--dump" ∷ [], Some (compile (codes "--dump"))) ∷
+    -- no FILE, and no value
+    (codes "--dump" ∷ codes "tokens" ∷ [], None) ∷
+    (codes "--dump=tokens" ∷ [], None) ∷
+    (codes "--dump" ∷ [], None) ∷
+    (codes "--dump" ∷ codes "f" ∷ [], None) ∷
+    (codes "--dump=" ∷ [], None) ∷
+    (codes "--dump=" ∷ codes "f" ∷ [], None) ∷
+    (codes "--dump" ∷ codes "" ∷ codes "f" ∷ [], None) ∷
+    (codes "f" ∷ codes "--dump" ∷ [], None) ∷
+    (codes "--dump" ∷ codes "-S" ∷ codes "f" ∷ [], None) ∷
+    (codes "--dump" ∷ codes "--" ∷ codes "f" ∷ [], None) ∷
+    -- another name or another stage
+    (codes "--du" ∷ codes "tokens" ∷ codes "f" ∷ [], None) ∷
+    (codes "-dump" ∷ codes "tokens" ∷ codes "f" ∷ [], None) ∷
+    (codes "--dump" ∷ codes "tree" ∷ codes "f" ∷ [], None) ∷
+    (codes "--dump" ∷ codes "Tokens" ∷ codes "f" ∷ [], None) ∷
+    (codes "--dump" ∷ codes "token" ∷ codes "f" ∷ [], None) ∷
+    (codes "--dump" ∷ codes "tokens " ∷ codes "f" ∷ [], None) ∷
+    -- two jobs, an option twice, two files
+    (codes "-S" ∷ codes "--dump" ∷ codes "tokens" ∷ codes "f" ∷ [], None) ∷
+    (codes "--dump" ∷ codes "tokens" ∷ codes "-S" ∷ codes "f" ∷ [], None) ∷
+    (codes "-S" ∷ codes "--dump" ∷ codes "tree" ∷ codes "f" ∷ [], None) ∷
+    (codes "--dump" ∷ codes "tokens" ∷ codes "--dump" ∷ codes "tokens" ∷ codes "f" ∷ [], None) ∷
+    (codes "--dump=tokens" ∷ codes "--dump=tokens" ∷ codes "f" ∷ [], None) ∷
+    (codes "--dump" ∷ codes "tokens" ∷ codes "f" ∷ codes "g" ∷ [], None) ∷ []
+
+words_ask_for_dumps : map (λ row. job_of (codes "cparser" ∷ row.0)) dump_rows ≡ map (λ row. row.1) dump_rows
+unfolding job_of clap_on_literals
+words_ask_for_dumps = refl
+
 -- the program's name is no option and no file
-names_of_the_program : map (λ name. job_of (name ∷ codes "-S" ∷ codes "a" ∷ [])) (codes "" ∷ codes "-S" ∷ codes "--" ∷ codes "b" ∷ []) ≡ map (λ file. Some (Compile file)) (codes "a" ∷ codes "a" ∷ codes "a" ∷ codes "a" ∷ [])
+names_of_the_program : map (λ name. job_of (name ∷ codes "-S" ∷ codes "a" ∷ [])) (codes "" ∷ codes "-S" ∷ codes "--" ∷ codes "b" ∷ []) ≡ map (λ file. Some (compile file)) (codes "a" ∷ codes "a" ∷ codes "a" ∷ codes "a" ∷ [])
 unfolding job_of clap_on_literals
 names_of_the_program = refl
 

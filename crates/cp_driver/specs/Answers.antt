@@ -1,17 +1,16 @@
 -- What a call of `cparser` may answer, and what it leaves.
 use Rattle.std.specs.Prelude.{◌≡◌, ℕ, ◌<◌, ◌≤◌, ◌⊎◌, false, List, length, Option, Some, None}
 use Rattle.cp_base.specs.Outside.{Contents, Rose, Tells, Lacks, gained, GainsFront}
-use Rattle.rv_code.specs.declared.assembly.AsmUnit.{AsmUnit}
 use Rattle.rv_code.specs.Text.{text_of}
 use Rattle.rv_code.specs.WellFormed.{IsWellFormed}
-use Rattle.cp_first.specs.FirstForm.{IsNotFirst}
 use Rattle.cp_first.specs.FirstUnit.{first_unit}
-use Rattle.cp_first.specs.FirstAssembly.{IsAssemblyOf}
+use Rattle.cp_driver.specs.declared.job.Task.{Task}
 use Rattle.cp_driver.specs.declared.report.Fault.{Fault}
-use Rattle.cp_driver.specs.declared.report.Fault.TheVariants.{Usage, ReadFault, WriteFault, TooLong, NotYet, OutOfMemory}
+use Rattle.cp_driver.specs.declared.report.Fault.TheVariants.{Lexical, Usage, ReadFault, WriteFault, TooLong, NotYet, OutOfMemory}
 use Rattle.cp_driver.specs.declared.report.Report.{Report}
 use Rattle.cp_driver.specs.declared.report.Done.{Done}
-use Rattle.cp_driver.specs.Jobs.{Job, Compile, file_of}
+use Rattle.cp_driver.specs.Jobs.{Job, file_of}
+use Rattle.cp_driver.specs.Making.{Makes, Refuses}
 use Rattle.cp_driver.specs.Messages.{IsTold}
 
 -- the greatest number of bytes of a file
@@ -33,6 +32,12 @@ pub record Compiles (bytes : List ℕ) (status : ℕ) (done : Done) (out out' er
   pub written : out' ≡ gained out (text_of (first_unit bytes status))
   pub silent : err' ≡ err
 
+-- the whole text is written, there is no report, and nothing else happens
+pub record Writes (text : List ℕ) (done : Done) (out out' err err' : Option (List ℕ)) : Type 0 where
+  pub answer : done ≡ record { status = 0; fault = None; report = None }
+  pub written : out' ≡ gained out text
+  pub silent : err' ≡ err
+
 -- ---- files that are read, and files that are not
 
 -- a file that was read: it is within the limit, and where contents are told, they have it
@@ -48,10 +53,6 @@ CannotRead contents reads reads' file = Rose reads reads' ⊎ Lacks contents fil
 -- the file is over the limit, where contents are told; of others this says nothing
 abbrev pub IsTooLong : Option Contents → List ℕ → Type 0
 IsTooLong contents file = ((bytes : List ℕ) → Tells contents file bytes → file_limit < length bytes) × (Lacks contents file → ⊥)
-
--- the file was read, and is not of the first form, where contents are told
-abbrev pub IsOfOtherForm : Option Contents → List ℕ → Type 0
-IsOfOtherForm contents file = (text : List ℕ) × IsRead contents file text × IsNotFirst text
 
 -- ---- the answers of a call
 
@@ -70,23 +71,35 @@ pub record Call : Type 0 where
   pub err : Option (List ℕ)
   pub err' : Option (List ℕ)
 
--- the job is to compile a file of which this holds
-abbrev pub OnFile : Option Job → (List ℕ → Type 0) → Type 0
-OnFile job Holds = (file : List ℕ) × (job ≡ Some (Compile file)) × Holds file
+-- the job is this task with this file, and this holds of the two
+pub record OnFile (job : Option Job) (Holds : Task → List ℕ → Type 0) : Type 0 where
+  pub task : Task
+  pub file : List ℕ
+  pub asked : job ≡ Some (record { task = task; file = file })
+  pub holds : Holds task file
 
--- why each fault comes
-abbrev pub Because : Fault → Option Job → Call → Type 0
-Because Usage job call = job ≡ None
-Because (ReadFault input) job call = OnFile job (λ file. (input ≡ false) × CannotRead call.contents call.read_faults call.read_faults' file)
-Because (TooLong input) job call = OnFile job (λ file. (input ≡ false) × IsTooLong call.contents file)
-Because NotYet job call = OnFile job (λ file. IsOfOtherForm call.contents file)
-Because WriteFault job call = Rose call.write_faults call.write_faults'
-Because OutOfMemory job call = Unit {0}
+-- the file was read and has these bytes, where contents are told, and the task refuses them
+abbrev pub RefusesFile : Fault → Option Contents → List ℕ → Task → List ℕ → Type 0
+RefusesFile fault contents bytes task file = IsRead contents file bytes × Refuses task bytes fault
 
--- the output has gained a front of the file's assembly text, and not all
-abbrev pub LeavesFront : Option Contents → Option (List ℕ) → Option (List ℕ) → List ℕ → Type 0
-LeavesFront contents out out' file =
-    (text : List ℕ) × (asm : AsmUnit) × IsRead contents file text × IsAssemblyOf text asm × GainsFront out out' (text_of asm)
+-- why each fault comes, where FILE has these bytes if it was read
+abbrev pub Because : Fault → Option Job → List ℕ → Call → Type 0
+Because Usage job bytes call = job ≡ None
+Because (ReadFault input) job bytes call = OnFile job (λ task file. (input ≡ false) × CannotRead call.contents call.read_faults call.read_faults' file)
+Because (TooLong input) job bytes call = OnFile job (λ task file. (input ≡ false) × IsTooLong call.contents file)
+Because (Lexical at) job bytes call = OnFile job (RefusesFile (Lexical at) call.contents bytes)
+Because NotYet job bytes call = OnFile job (RefusesFile NotYet call.contents bytes)
+Because WriteFault job bytes call = Rose call.write_faults call.write_faults'
+Because OutOfMemory job bytes call = Unit {0}
+
+-- the output has gained a front of what the task makes of the file, and not all
+pub record LeavesFront (contents : Option Contents) (out out' : Option (List ℕ)) (task : Task) (file : List ℕ) : Type 0 where
+  pub bytes : List ℕ
+  pub text : List ℕ
+  pub report : Option Report
+  pub read : IsRead contents file bytes
+  pub makes : Makes task bytes text report
+  pub front : GainsFront out out' text
 
 -- what the output has gained where a fault comes: nothing, but for a failed write of it
 abbrev pub LeavesOutput : Fault → Option Job → Call → Type 0
@@ -94,6 +107,7 @@ LeavesOutput WriteFault job call = OnFile job (LeavesFront call.contents call.ou
 LeavesOutput Usage job call = call.out' ≡ call.out
 LeavesOutput (ReadFault input) job call = call.out' ≡ call.out
 LeavesOutput (TooLong input) job call = call.out' ≡ call.out
+LeavesOutput (Lexical at) job call = call.out' ≡ call.out
 LeavesOutput NotYet job call = call.out' ≡ call.out
 LeavesOutput OutOfMemory job call = call.out' ≡ call.out
 
@@ -101,22 +115,24 @@ LeavesOutput OutOfMemory job call = call.out' ≡ call.out
 -- not be written
 pub record IsRefused (job : Option Job) (done : Done) (call : Call) : Type 0 where
   pub fault : Fault
-  pub because : Because fault job call
+  pub bytes : List ℕ
+  pub because : Because fault job bytes call
   pub output : LeavesOutput fault job call
-  pub told : IsTold fault (file_of job) done call.line_faults call.line_faults' call.err call.err'
+  pub told : IsTold fault (file_of job) bytes done call.line_faults call.line_faults' call.err call.err'
 
--- a file was compiled, and the whole text was written
-pub record IsCompiled (contents : Option Contents) (report : Report) (out out' : Option (List ℕ)) (file : List ℕ) : Type 0 where
+-- the task made its text of the file, and the whole text was written
+pub record IsMade (contents : Option Contents) (report : Option Report) (out out' : Option (List ℕ)) (task : Task) (file : List ℕ) : Type 0 where
+  pub bytes : List ℕ
   pub text : List ℕ
-  pub read : IsRead contents file text
-  pub assembly : IsAssemblyOf text report.asm
-  pub written : out' ≡ gained out (text_of report.asm)
+  pub read : IsRead contents file bytes
+  pub makes : Makes task bytes text report
+  pub written : out' ≡ gained out text
 
 -- the whole job is done
 pub record IsDone (job : Option Job) (done : Done) (call : Call) : Type 0 where
-  pub report : Report
-  pub answer : done ≡ record { status = 0; fault = None; report = Some report }
-  pub compiled : OnFile job (IsCompiled call.contents report call.out call.out')
+  pub report : Option Report
+  pub answer : done ≡ record { status = 0; fault = None; report = report }
+  pub made : OnFile job (IsMade call.contents report call.out call.out')
   pub silent : call.err' ≡ call.err
 
 -- the answer is this fault, unless its line could not be written or memory was wanting
@@ -128,14 +144,15 @@ ComesTo fault done call =
 abbrev pub ComesAfterRead : Fault → Done → Call → Type 0
 ComesAfterRead fault done call = ((done.fault ≡ Some (ReadFault false)) × Rose call.read_faults call.read_faults') ⊎ ComesTo fault done call
 
--- what a call answers, and in which order: words that are no job, then a file that cannot be read or is too long, then one
--- of another form
+-- what a call answers, and in which order: words that are no job, then a file that cannot be read or is too long, then bytes
+-- that the task refuses
 pub record Answers (job : Option Job) (done : Done) (call : Call) : Type 0 where
   pub either : IsDone job done call ⊎ IsRefused job done call
   pub usage : job ≡ None → ComesTo Usage done call
-  pub lacking : (file : List ℕ) → job ≡ Some (Compile file) → Lacks call.contents file → ComesTo (ReadFault false) done call
-  pub too_long : (file text : List ℕ) → job ≡ Some (Compile file) → Tells call.contents file text → file_limit < length text
-      → ComesAfterRead (TooLong false) done call
-  pub not_yet : (file text : List ℕ) → job ≡ Some (Compile file) → Tells call.contents file text → length text ≤ file_limit → IsNotFirst text
-      → ComesAfterRead NotYet done call
+  pub lacking : (task : Task) (file : List ℕ) → job ≡ Some (record { task = task; file = file }) → Lacks call.contents file
+      → ComesTo (ReadFault false) done call
+  pub too_long : (task : Task) (file bytes : List ℕ) → job ≡ Some (record { task = task; file = file }) → Tells call.contents file bytes
+      → file_limit < length bytes → ComesAfterRead (TooLong false) done call
+  pub refused : (task : Task) (file bytes : List ℕ) (fault : Fault) → job ≡ Some (record { task = task; file = file }) → Tells call.contents file bytes
+      → length bytes ≤ file_limit → Refuses task bytes fault → ComesAfterRead fault done call
   pub write_fault : done.fault ≡ Some WriteFault → Rose call.write_faults call.write_faults' ⊎ Rose call.line_faults call.line_faults'

@@ -1,43 +1,55 @@
--- How a call comes to its answers: why a file is not read, a text not compiled, and a text not written.
+-- How a call comes to its answers: why a file is not read, and why what a task makes of it is not written.
 use Rattle.std.specs.Prelude.{◌≡◌, ℕ, false, List, Option}
 use Rattle.cp_base.specs.Outside.{Contents, Rose}
-use Rattle.cp_first.specs.FirstForm.{IsNotFirst}
+use Rattle.c_lexer.specs.declared.token.LexFault.{LexFault}
+use Rattle.c_lexer.specs.declared.token.LexFault.TheVariants as lexer
+use Rattle.cp_driver.specs.declared.job.Task.{Task}
 use Rattle.cp_driver.specs.declared.report.Fault.{Fault}
-use Rattle.cp_driver.specs.declared.report.Fault.TheVariants.{Usage, ReadFault, WriteFault, TooLong, NotYet, OutOfMemory}
-use Rattle.cp_driver.specs.Answers.{CannotRead, IsTooLong, IsOfOtherForm, LeavesFront}
+use Rattle.cp_driver.specs.declared.report.Fault.TheVariants.{Lexical, Usage, ReadFault, WriteFault, TooLong, NotYet, OutOfMemory}
+use Rattle.cp_driver.specs.Making.{Refuses}
+use Rattle.cp_driver.specs.Answers.{CannotRead, IsTooLong, RefusesFile, LeavesFront}
+
+-- a refusal of the lexer
+abbrev pub fault_of_lexer : LexFault → Fault
+fault_of_lexer (lexer.Lexical at) = Lexical at
+fault_of_lexer lexer.OutOfMemory = OutOfMemory
 
 -- why a file is not read
 abbrev pub ReadCause : Fault → Option Contents → ℕ → ℕ → List ℕ → Type 0
 ReadCause (ReadFault input) contents reads reads' file = (input ≡ false) × CannotRead contents reads reads' file
 ReadCause (TooLong input) contents reads reads' file = (input ≡ false) × IsTooLong contents file
 ReadCause OutOfMemory contents reads reads' file = Unit {0}
+ReadCause (Lexical at) contents reads reads' file = ⊥
 ReadCause Usage contents reads reads' file = ⊥
 ReadCause NotYet contents reads reads' file = ⊥
 ReadCause WriteFault contents reads reads' file = ⊥
 
--- why a text is not compiled
-abbrev pub CompileCause : Fault → List ℕ → Type 0
-CompileCause NotYet text = IsNotFirst text
-CompileCause OutOfMemory text = Unit {0}
-CompileCause Usage text = ⊥
-CompileCause (ReadFault input) text = ⊥
-CompileCause (TooLong input) text = ⊥
-CompileCause WriteFault text = ⊥
+-- why a task makes nothing of the bytes
+abbrev pub MakeCause : Fault → Task → List ℕ → Type 0
+MakeCause OutOfMemory task bytes = Unit {0}
+MakeCause (Lexical at) task bytes = Refuses task bytes (Lexical at)
+MakeCause NotYet task bytes = Refuses task bytes NotYet
+MakeCause Usage task bytes = ⊥
+MakeCause (ReadFault input) task bytes = ⊥
+MakeCause (TooLong input) task bytes = ⊥
+MakeCause WriteFault task bytes = ⊥
 
--- why the file's text is not written, over the counts of failed reads and of failed writes of the output
-abbrev pub Cause : Fault → Option Contents → ℕ → ℕ → ℕ → ℕ → List ℕ → Type 0
-Cause NotYet contents reads reads' writes writes' file = IsOfOtherForm contents file
-Cause WriteFault contents reads reads' writes writes' file = Rose writes writes'
-Cause Usage contents reads reads' writes writes' file = ⊥
-Cause (ReadFault input) contents reads reads' writes writes' file = ReadCause (ReadFault input) contents reads reads' file
-Cause (TooLong input) contents reads reads' writes writes' file = ReadCause (TooLong input) contents reads reads' file
-Cause OutOfMemory contents reads reads' writes writes' file = Unit {0}
+-- why a job is not done, over the counts of failed reads and of failed writes of the output, and the bytes that were read
+abbrev pub Cause : Fault → Option Contents → ℕ → ℕ → ℕ → ℕ → List ℕ → Task → List ℕ → Type 0
+Cause (Lexical at) contents reads reads' writes writes' bytes task file = RefusesFile (Lexical at) contents bytes task file
+Cause NotYet contents reads reads' writes writes' bytes task file = RefusesFile NotYet contents bytes task file
+Cause WriteFault contents reads reads' writes writes' bytes task file = Rose writes writes'
+Cause Usage contents reads reads' writes writes' bytes task file = ⊥
+Cause (ReadFault input) contents reads reads' writes writes' bytes task file = ReadCause (ReadFault input) contents reads reads' file
+Cause (TooLong input) contents reads reads' writes writes' bytes task file = ReadCause (TooLong input) contents reads reads' file
+Cause OutOfMemory contents reads reads' writes writes' bytes task file = Unit {0}
 
 -- and what the output has gained by then
-abbrev pub Leaves : Fault → Option Contents → Option (List ℕ) → Option (List ℕ) → List ℕ → Type 0
-Leaves WriteFault contents out out' file = LeavesFront contents out out' file
-Leaves Usage contents out out' file = out' ≡ out
-Leaves (ReadFault input) contents out out' file = out' ≡ out
-Leaves (TooLong input) contents out out' file = out' ≡ out
-Leaves NotYet contents out out' file = out' ≡ out
-Leaves OutOfMemory contents out out' file = out' ≡ out
+abbrev pub Leaves : Fault → Option Contents → Option (List ℕ) → Option (List ℕ) → Task → List ℕ → Type 0
+Leaves WriteFault contents out out' task file = LeavesFront contents out out' task file
+Leaves (Lexical at) contents out out' task file = out' ≡ out
+Leaves Usage contents out out' task file = out' ≡ out
+Leaves (ReadFault input) contents out out' task file = out' ≡ out
+Leaves (TooLong input) contents out out' task file = out' ≡ out
+Leaves NotYet contents out out' task file = out' ≡ out
+Leaves OutOfMemory contents out out' task file = out' ≡ out

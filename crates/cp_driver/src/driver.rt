@@ -1,41 +1,31 @@
 // The top call.
-ghost use Rattle.std.specs.Prelude.{◌≡◌, ◌≢◌, ◌≤◌, ℕ, List, length, Some, None, IfOk, IfErr};
+ghost use Rattle.std.specs.Prelude.{◌≡◌, ◌≢◌, ◌≤◌, ℕ, List, [], length, Some, None, IfOk, IfErr, OnOk};
 ghost use Rattle.cp_base.specs.Outside.{Tells};
-ghost use Rattle.rv_code.specs.Text.{text_of};
-ghost use Rattle.cp_driver.specs.Jobs.{Compile, job_of};
+ghost use Rattle.cp_driver.specs.declared.job.Stage.{Stage};
+ghost use Rattle.cp_driver.specs.Jobs.{compile, dump, job_of};
+ghost use Rattle.cp_driver.specs.Making.{Shows};
 ghost use Rattle.cp_first.specs.FirstForm.{IsFirst};
-ghost use Rattle.cp_first.specs.FirstAssembly.{MachineWrites, IsAssemblyOf};
-ghost use Rattle.cp_driver.specs.Answers.{NoFault, IsRead, IsCompiled, Compiles, Answers, file_limit};
-ghost use Rattle.cp_driver.specs.Causes.{ReadCause, CompileCause, Cause, Leaves};
-ghost use Rattle.cp_driver.specs.Messages.{IsTold};
+ghost use Rattle.cp_first.specs.FirstAssembly.{MachineWrites};
+ghost use Rattle.cp_driver.specs.Answers.{NoFault, IsRead, IsMade, Compiles, Writes, Answers, file_limit};
+ghost use Rattle.cp_driver.specs.Causes.{ReadCause, Cause, Leaves};
+ghost use Rattle.cp_driver.specs.Messages.{HasPlace, IsTold};
 
+use crate::job::Job;
+use crate::make::make;
 use crate::message::put_fault;
 use crate::report::{Done, Fault, Report};
-use crate::words::file_to_compile;
+use crate::words::job_of;
 use cp_base::{Bytes, Failed, Files, Names, Sink, TakeFault, put_all};
-use cp_first::compile_first;
-use rv_code::{AsmUnit, text_of};
 use std::alloc::{AllocError, Global};
 
 // The greatest number of bytes of a file.
 const FILE_LIMIT: usize = 4_194_304;
 
-impl From<AllocError> for Fault {
-    ghost use Rattle.std.specs.Prelude.{◌≡◌};
-    ghost use Rattle.cp_driver.specs.declared.report.Fault.TheVariants.{OutOfMemory};
-
-    ghost from_gives = { λ _ fault. fault ≡ OutOfMemory };
-
-    fn from(_error: AllocError) -> Fault {
-        Fault::OutOfMemory
-    }
-}
-
 /// Does the job that the words ask for, over these files and sinks. The first word is the
 /// program's name.
 ///
-/// The job is to write the assembly of a file; `-` is standard input. Only units of the first form
-/// are compiled so far.
+/// The job is to write the assembly of a file, or its tokens; `-` is standard input. Only units of the
+/// first form are compiled so far.
 pub fn cparser<F: Files, O: Sink, E: Sink>(
     alloc: Global,
     words: &Names,
@@ -44,15 +34,21 @@ pub fn cparser<F: Files, O: Sink, E: Sink>(
     err: &mut E,
 ) -> Done
     // A unit of the first form is compiled, and its text written.
-    ensures compiles { (file text bytes : List ℕ) (status : ℕ) → job_of words.now ≡ Some (Compile file)
+    ensures compiles { (file text bytes : List ℕ) (status : ℕ) → job_of words.now ≡ Some (compile file)
         → Tells (F.contents files.old) file text → length text ≤ file_limit → IsFirst text bytes status
         → NoFault (F.faults files.old) (F.faults files.new) (O.faults out.old) (O.faults out.new) (E.faults err.old) (E.faults err.new)
         → result.fault ≢ Some Fault.OutOfMemory
         → Compiles bytes status result (O.written out.old) (O.written out.new) (E.written err.old) (E.written err.new) }
     // Wherever its report is there, the machine that runs the assembly writes the bytes and ends with the status.
-    ensures runs { (file text bytes : List ℕ) (status : ℕ) → job_of words.now ≡ Some (Compile file)
+    ensures runs { (file text bytes : List ℕ) (status : ℕ) → job_of words.now ≡ Some (compile file)
         → Tells (F.contents files.old) file text → IsFirst text bytes status
         → (report : Report) → result.report ≡ Some report → MachineWrites report.asm bytes status }
+    // A file's text at a stage is written.
+    ensures dumps { (stage : Stage) (file bytes text : List ℕ) → job_of words.now ≡ Some (dump stage file)
+        → Tells (F.contents files.old) file bytes → length bytes ≤ file_limit → Shows stage bytes text
+        → NoFault (F.faults files.old) (F.faults files.new) (O.faults out.old) (O.faults out.new) (E.faults err.old) (E.faults err.new)
+        → result.fault ≢ Some Fault.OutOfMemory
+        → Writes text result (O.written out.old) (O.written out.new) (E.written err.old) (E.written err.new) }
     // Each fault comes for its cause and in its turn, and leaves what it may.
     ensures answers { Answers (job_of words.now) result (record {
       contents = F.contents files.old;
@@ -73,27 +69,29 @@ pub fn cparser<F: Files, O: Sink, E: Sink>(
     // Words that are no job read no file.
     ensures unread { job_of words.now ≡ None → files.new ≡ files.old }
 {
-    let file = match file_to_compile(alloc, words.as_slice()) {
-        Ok(Some(file)) => file,
-        Ok(None) => return refuse(err, "", Fault::Usage),
-        Err(AllocError) => return refuse(err, "", Fault::OutOfMemory),
+    let job = match job_of(alloc, words.as_slice()) {
+        Ok(Some(job)) => job,
+        Ok(None) => return refuse(err, "", b"", Fault::Usage),
+        Err(AllocError) => return refuse(err, "", b"", Fault::OutOfMemory),
     };
-    match compile_file(alloc, file, files, out) {
+    let mut bytes = Bytes::new(alloc);
+    match do_job(alloc, job, files, &mut bytes, out) {
         Ok(report) => Done {
             status: 0,
             fault: None,
-            report: Some(report),
+            report,
         },
-        Err(fault) => refuse(err, file, fault),
+        Err(fault) => refuse(err, job.file, bytes.as_slice(), fault),
     }
 }
 
 // Answers a fault that came with this file, with its line on the error sink.
-fn refuse<E: Sink>(err: &mut E, file: &str, fault: Fault) -> Done
+fn refuse<E: Sink>(err: &mut E, file: &str, bytes: &[u8], fault: Fault) -> Done
+    requires { HasPlace bytes.now fault }
     ensures count { E.faults err.old ≤ E.faults err.new }
-    ensures told { IsTold fault file.now result (E.faults err.old) (E.faults err.new) (E.written err.old) (E.written err.new) }
+    ensures told { IsTold fault file.now bytes.now result (E.faults err.old) (E.faults err.new) (E.written err.old) (E.written err.new) }
 {
-    let fault = match put_fault(err, file, &fault) {
+    let fault = match put_fault(err, file, bytes, &fault) {
         Ok(()) => fault,
         Err(Failed) => Fault::WriteFault,
     };
@@ -104,51 +102,42 @@ fn refuse<E: Sink>(err: &mut E, file: &str, fault: Fault) -> Done
     }
 }
 
-// Reads FILE and compiles it, and writes the text of its assembly.
-fn compile_file<F: Files, O: Sink>(
+// Reads FILE into `bytes`, which is empty, and writes what the task makes of it.
+fn do_job<F: Files, O: Sink>(
     alloc: Global,
-    file: &str,
+    job: Job<'_>,
     files: &mut F,
+    bytes: &mut Bytes,
     out: &mut O,
-) -> Result<Report, Fault>
+) -> Result<Option<Report>, Fault>
+    requires { bytes.now ≡ [] }
     ensures contents { F.contents files.new ≡ F.contents files.old }
     ensures reads { F.faults files.old ≤ F.faults files.new }
     ensures writes { O.faults out.old ≤ O.faults out.new }
-    ensures ok { IfOk result (λ report. IsCompiled (F.contents files.old) report (O.written out.old) (O.written out.new) file.now) }
-    ensures cause { IfErr result (λ fault. Cause fault (F.contents files.old) (F.faults files.old) (F.faults files.new) (O.faults out.old) (O.faults out.new) file.now) }
-    ensures leaves { IfErr result (λ fault. Leaves fault (F.contents files.old) (O.written out.old) (O.written out.new) file.now) }
+    ensures ok { IfOk result (λ report. IsMade (F.contents files.old) report (O.written out.old) (O.written out.new) job.entry.task job.entry.file.now) }
+    ensures cause { IfErr result (λ fault. Cause fault (F.contents files.old) (F.faults files.old) (F.faults files.new) (O.faults out.old) (O.faults out.new) bytes.new job.entry.task job.entry.file.now) }
+    ensures leaves { IfErr result (λ fault. Leaves fault (F.contents files.old) (O.written out.old) (O.written out.new) job.entry.task job.entry.file.now) }
+    ensures place { IfErr result (λ fault. HasPlace bytes.new fault) }
 {
-    let text = read_file(alloc, file, files)?;
-    let asm = compile(alloc, text.as_slice())?;
-    let text = text_of(alloc, &asm)?;
-    match put_all(out, text.as_slice()) {
-        Ok(()) => Ok(Report { asm }),
+    read_file(job.file, files, bytes)?;
+    let made = make(alloc, job.task, bytes.as_slice())?;
+    match put_all(out, made.text.as_slice()) {
+        Ok(()) => Ok(made.report),
         Err(Failed) => Err(Fault::WriteFault),
     }
 }
 
-fn read_file<F: Files>(alloc: Global, file: &str, files: &mut F) -> Result<Bytes, Fault>
+fn read_file<F: Files>(file: &str, files: &mut F, bytes: &mut Bytes) -> Result<(), Fault>
+    requires { bytes.now ≡ [] }
     ensures contents { F.contents files.new ≡ F.contents files.old }
     ensures reads { F.faults files.old ≤ F.faults files.new }
-    ensures ok { IfOk result (λ text. IsRead (F.contents files.old) file.now text) }
+    ensures ok { OnOk result (IsRead (F.contents files.old) file.now bytes.new) }
     ensures cause { IfErr result (λ fault. ReadCause fault (F.contents files.old) (F.faults files.old) (F.faults files.new) file.now) }
 {
-    let mut text = Bytes::new(alloc);
-    match files.take(file, &mut text, FILE_LIMIT) {
-        Ok(()) => Ok(text),
+    match files.take(file, bytes, FILE_LIMIT) {
+        Ok(()) => Ok(()),
         Err(TakeFault::Failed) => Err(Fault::ReadFault { input: false }),
         Err(TakeFault::TooLong) => Err(Fault::TooLong { input: false }),
         Err(TakeFault::OutOfMemory) => Err(Fault::OutOfMemory),
-    }
-}
-
-// The unit of a text of the first form.
-fn compile(alloc: Global, text: &[u8]) -> Result<AsmUnit, Fault>
-    ensures ok { IfOk result (λ asm. IsAssemblyOf text.now asm) }
-    ensures cause { IfErr result (λ fault. CompileCause fault text.now) }
-{
-    match compile_first(alloc, text)? {
-        Some(asm) => Ok(asm),
-        None => Err(Fault::NotYet),
     }
 }

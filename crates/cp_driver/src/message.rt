@@ -1,10 +1,13 @@
 // The line of a fault.
-ghost use Rattle.std.specs.Prelude.{◌≡◌, ◌≤◌, ◌++◌, codes, OnOk, OnErr};
+ghost use Rattle.std.specs.Prelude.{◌≡◌, ◌≤◌, ◌++◌, length, codes, OnOk, OnErr};
 ghost use Rattle.cp_base.specs.Outside.{Rose, gained, GainsFront};
-ghost use Rattle.cp_driver.specs.Messages.{status_of, fault_text};
+ghost use Rattle.cp_driver.specs.Messages.{HasPlace, error_text, fault_text, status_of};
+ghost use Rattle.cp_driver.specs.Pieces.{text_of};
 
 use crate::report::Fault;
+use c_lexer::line_of;
 use cp_base::{Failed, Sink, put_all};
+use itoa::Buffer;
 
 const USAGE: &str = "usage: cparser [-S] [--regs K] [--dump STAGE] [--syntax-only] [--run INPUT] \
     [--interpret INPUT] [--fuel N] [--depth D] [--stack B] [--generate SEED] [FILE]\n";
@@ -15,7 +18,7 @@ impl Fault {
         ensures { result ≡ status_of self.now }
     {
         match self {
-            Fault::NotYet => 1,
+            Fault::Lexical { .. } | Fault::NotYet => 1,
             Fault::Usage => 2,
             Fault::ReadFault { .. } => 3,
             Fault::WriteFault => 4,
@@ -25,14 +28,21 @@ impl Fault {
     }
 }
 
-/// Writes the line of a fault that came with this file.
-pub fn put_fault<E: Sink>(err: &mut E, file: &str, fault: &Fault) -> Result<(), Failed>
+/// Writes the line of a fault that came with this file, which has these bytes.
+pub fn put_fault<E: Sink>(
+    err: &mut E,
+    file: &str,
+    bytes: &[u8],
+    fault: &Fault,
+) -> Result<(), Failed>
+    requires { HasPlace bytes.now fault.now }
     ensures count { E.faults err.old ≤ E.faults err.new }
-    ensures ok { OnOk result (E.written err.new ≡ gained (E.written err.old) (fault_text file.now fault.now)) }
-    ensures front { OnErr result (GainsFront (E.written err.old) (E.written err.new) (fault_text file.now fault.now)) }
+    ensures ok { OnOk result (E.written err.new ≡ gained (E.written err.old) (fault_text file.now bytes.now fault.now)) }
+    ensures front { OnErr result (GainsFront (E.written err.old) (E.written err.new) (fault_text file.now bytes.now fault.now)) }
     ensures failed { OnErr result (Rose (E.faults err.old) (E.faults err.new)) }
 {
     match fault {
+        Fault::Lexical { at } => put_error(err, file, bytes, *at, b"no token here\n"),
         Fault::Usage => put_all(err, USAGE.as_bytes()),
         Fault::ReadFault { .. } => put_about(err, file, b": read failed\n"),
         Fault::WriteFault => put_all(err, b"cparser: write failed\n"),
@@ -49,7 +59,51 @@ fn put_about<E: Sink>(err: &mut E, file: &str, what: &[u8]) -> Result<(), Failed
     ensures front { OnErr result (GainsFront (E.written err.old) (E.written err.new) (codes "cparser: " ++ (file.now ++ what.now))) }
     ensures failed { OnErr result (Rose (E.faults err.old) (E.faults err.new)) }
 {
-    put_all(err, b"cparser: ")?;
-    put_all(err, file.as_bytes())?;
-    put_all(err, what)
+    put_pieces(err, &[b"cparser: ", file.as_bytes(), what])
+}
+
+// A line about a place in a file: `FILE:LINE:COL: error: ` and what is wrong there.
+fn put_error<E: Sink>(
+    err: &mut E,
+    file: &str,
+    bytes: &[u8],
+    at: usize,
+    what: &[u8],
+) -> Result<(), Failed>
+    requires { at ≤ length bytes.now }
+    ensures count { E.faults err.old ≤ E.faults err.new }
+    ensures ok { OnOk result (E.written err.new ≡ gained (E.written err.old) (error_text file.now bytes.now at what.now)) }
+    ensures front { OnErr result (GainsFront (E.written err.old) (E.written err.new) (error_text file.now bytes.now at what.now)) }
+    ensures failed { OnErr result (Rose (E.faults err.old) (E.faults err.new)) }
+{
+    let (line, column) = line_of(bytes, at);
+    let mut line_buffer = Buffer::new();
+    let mut column_buffer = Buffer::new();
+    let line = line_buffer.format(line).as_bytes();
+    let column = column_buffer.format(column).as_bytes();
+    put_pieces(
+        err,
+        &[
+            file.as_bytes(),
+            b":",
+            line,
+            b":",
+            column,
+            b": error: ",
+            what,
+        ],
+    )
+}
+
+// Pieces, one after another.
+fn put_pieces<E: Sink>(err: &mut E, pieces: &[&[u8]]) -> Result<(), Failed>
+    ensures count { E.faults err.old ≤ E.faults err.new }
+    ensures ok { OnOk result (E.written err.new ≡ gained (E.written err.old) (text_of pieces.now)) }
+    ensures front { OnErr result (GainsFront (E.written err.old) (E.written err.new) (text_of pieces.now)) }
+    ensures failed { OnErr result (Rose (E.faults err.old) (E.faults err.new)) }
+{
+    for piece in pieces {
+        put_all(err, piece)?;
+    }
+    Ok(())
 }

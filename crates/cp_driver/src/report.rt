@@ -4,6 +4,8 @@ use rv_code::AsmUnit;
 /// Why a job was not done. `input` says which file it was about: INPUT, or else FILE.
 #[derive(Clone, Copy, Debug, PartialEq, Eq)]
 pub enum Fault {
+    /// At this byte offset of FILE there is no token.
+    Lexical { at: usize },
     /// The words are no job.
     Usage,
     /// A file is not there, or could not be read.

@@ -1,7 +1,7 @@
 // Whole calls, over files and sinks in memory, and one over those of the host.
 ghost use Rattle.std.specs.Prelude.{◌<◌};
 
-use crate::{Done, cparser};
+use crate::{Done, Fault, cparser};
 use cp_base::{Bytes, Files, Items, MemFiles, MemSink, Name, Names, StdFiles, StdSink, TakeFault};
 use std::alloc::{AllocError, Global};
 use std::test::Fail;
@@ -78,6 +78,10 @@ const NO_FAULT: Host = Host {
     error: 0,
 };
 
+const FILES: [&str; 8] = [
+    "hi.c", "r1.c", "r2.c", "r14.c", "r29.c", "r32.c", "r38.c", "r39.c",
+];
+
 const USAGE: &str = "usage: cparser [-S] [--regs K] [--dump STAGE] [--syntax-only] [--run INPUT] \
     [--interpret INPUT] [--fuel N] [--depth D] [--stack B] [--generate SEED] [FILE]\n";
 
@@ -100,12 +104,12 @@ fn names(alloc: Global, words: &[&str]) -> Result<Names, AllocError> {
     Ok(names)
 }
 
-// A call with these words, on files `hi.c`, `r1.c` and `r2.c`, each of this text.
+// A call with these words, on a few files, each of this text.
 fn call(alloc: Global, words: &[&str], text: &[u8], host: Host) -> Result<Outcome, AllocError>
     requires { 0 < host.piece }
 {
     let mut files = MemFiles::new(alloc);
-    for name in ["hi.c", "r1.c", "r2.c"] {
+    for name in FILES {
         files.add(name, text)?;
     }
     files.fail(host.read)?;
@@ -184,10 +188,69 @@ fn not_yet(rt: HostRuntime) -> Result<(), Fail> {
     Ok(())
 }
 
+// A call of `--dump tokens` on a file of this text.
+fn dump_tokens(alloc: Global, file: &str, text: &[u8]) -> Result<Outcome, AllocError> {
+    call(
+        alloc,
+        &["cparser", "--dump", "tokens", file],
+        text,
+        NO_FAULT,
+    )
+}
+
+// A whole dump, with nothing on the error sink.
+fn is_dump(outcome: &Outcome, text: &str) -> bool {
+    outcome.done.status == 0
+        && outcome.done.fault.is_none()
+        && outcome.done.report.is_none()
+        && outcome.out.bytes() == text.as_bytes()
+        && outcome.err.bytes().is_empty()
+}
+
+#[test]
+fn plus_plus_plus(rt: HostRuntime) -> Result<(), Fail> {
+    let outcome = dump_tokens(rt.alloc(), "r38.c", b"a+++b")?;
+    let lines = "0 1 word a\n1 3 punct ++\n3 4 punct +\n4 5 word b\n";
+    assert!(rt; is_dump(&outcome, lines));
+    Ok(())
+}
+
+#[test]
+fn dumps(rt: HostRuntime) -> Result<(), Fail> {
+    let outcome = dump_tokens(rt.alloc(), "r32.c", b"int x=0x1F;")?;
+    let lines = "0 3 word int\n4 5 word x\n5 6 punct =\n6 10 int 31\n10 11 punct ;\n";
+    assert!(rt; is_dump(&outcome, lines));
+    Ok(())
+}
+
+#[test]
+fn bad_octal(rt: HostRuntime) -> Result<(), Fail> {
+    let text = b"'\\x41' 0x80000000 \"a\" /*c*/ 08";
+    let outcome = dump_tokens(rt.alloc(), "r39.c", text)?;
+    assert!(rt; is_refused(&outcome, 1, "r39.c:1:29: error: no token here\n"));
+    Ok(())
+}
+
+#[test]
+fn open_comment(rt: HostRuntime) -> Result<(), Fail> {
+    let text = b"int main(void){return 0;} /* open";
+    let outcome = dump_tokens(rt.alloc(), "r14.c", text)?;
+    assert!(rt; is_refused(&outcome, 1, "r14.c:1:27: error: no token here\n"));
+    assert!(rt; matches!(outcome.done.fault, Some(Fault::Lexical { at: 26 })));
+    Ok(())
+}
+
+#[test]
+fn faults_of_reading(rt: HostRuntime) -> Result<(), Fail> {
+    let outcome = dump_tokens(rt.alloc(), "r29.c", b"int x=2147483648;")?;
+    assert!(rt; is_refused(&outcome, 1, "r29.c:1:7: error: no token here\n"));
+    Ok(())
+}
+
 // Words that are no job give the usage line, and read no file: the first read is still to come.
 #[test]
 fn usage(rt: HostRuntime) -> Result<(), Fail> {
-    let rows: [&[&str]; 21] = [
+    let rows: [&[&str]; 28] = [
         &[],
         &["cparser"],
         &["cparser", ""],
@@ -209,6 +272,13 @@ fn usage(rt: HostRuntime) -> Result<(), Fail> {
         &["cparser", "--S", "hi.c"],
         &["cparser", "--regs", "7", "r1.c"],
         &["cparser", "--run", "E", "--interpret", "E", "r1.c"],
+        &["cparser", "--dump", "hi.c"],
+        &["cparser", "--dump=", "hi.c"],
+        &["cparser", "--du", "tokens", "hi.c"],
+        &["cparser", "--dump", "tree", "hi.c"],
+        &["cparser", "-S", "--dump", "tokens", "hi.c"],
+        &["cparser", "--dump", "-S", "hi.c"],
+        &["cparser", "--dump", "tokens"],
     ];
     let host = Host {
         read: 1,
@@ -227,7 +297,7 @@ fn usage(rt: HostRuntime) -> Result<(), Fail> {
 // Words that ask for a file, which is not there: the line names it.
 #[test]
 fn files_that_words_name(rt: HostRuntime) -> Result<(), Fail> {
-    let rows: [(&[&str], &str); 9] = [
+    let rows: [(&[&str], &str); 12] = [
         (&["cparser", "-"], "-"),
         (&["cparser", "f"], "f"),
         (&["cparser", "help"], "help"),
@@ -237,6 +307,9 @@ fn files_that_words_name(rt: HostRuntime) -> Result<(), Fail> {
         (&["cparser", "f", "--"], "f"),
         (&["cparser", "--", "-S"], "-S"),
         (&["cparser", "-S", "--", "-S"], "-S"),
+        (&["cparser", "--dump", "tokens", "f"], "f"),
+        (&["cparser", "--dump=tokens", "f"], "f"),
+        (&["cparser", "f", "--dump", "tokens"], "f"),
     ];
     for (words, file) in rows {
         let outcome = call(rt.alloc(), words, HI, NO_FAULT)?;
@@ -268,20 +341,57 @@ fn each_call_fails(rt: HostRuntime) -> Result<(), Fail> {
         (b"", (0, 1, 2), 4, 0, "cparser: "),
         (b"", (0, 1, 3), 4, 0, "cparser: hi.c"),
     ];
-    for (text, (read, output, error), status, written, line) in rows {
-        let host = Host {
-            read,
-            output,
-            error,
-            ..NO_FAULT
-        };
-        let outcome = call(rt.alloc(), &["cparser", "hi.c"], text, host)?;
+    for (text, faults, status, written, line) in rows {
+        let outcome = failing_call(rt.alloc(), &["cparser", "hi.c"], text, faults)?;
         assert_eq!(rt; outcome.done.status, status, "{line}");
         assert_eq!(rt; outcome.out.bytes().len(), written, "{line}");
         assert!(rt; HI_TEXT.starts_with(outcome.out.bytes()), "{line}");
         assert_eq!(rt; outcome.err.bytes(), line.as_bytes(), "{line}");
     }
     Ok(())
+}
+
+// The same with `--dump tokens`, on a text with tokens and on one without.
+#[test]
+fn each_call_of_a_dump_fails(rt: HostRuntime) -> Result<(), Fail> {
+    let rows: [(&[u8], (usize, usize, usize), u8, &[u8], &[u8]); 6] = [
+        (b"a", (1, 0, 0), 3, b"", b"cparser: hi.c: read failed\n"),
+        (b"a", (0, 1, 0), 4, b"", b"cparser: write failed\n"),
+        (b"a", (0, 2, 1), 0, b"0 1 word a\n", b""),
+        (
+            b"\n 08",
+            (0, 1, 0),
+            1,
+            b"",
+            b"hi.c:2:2: error: no token here\n",
+        ),
+        (b"\n 08", (0, 0, 4), 4, b"", b"hi.c:2"),
+        (b"\n 08", (0, 0, 7), 4, b"", b"hi.c:2:2: error: "),
+    ];
+    let words: &[&str] = &["cparser", "--dump", "tokens", "hi.c"];
+    for (text, faults, status, output, line) in rows {
+        let outcome = failing_call(rt.alloc(), words, text, faults)?;
+        assert_eq!(rt; outcome.done.status, status);
+        assert_eq!(rt; outcome.out.bytes(), output);
+        assert_eq!(rt; outcome.err.bytes(), line);
+    }
+    Ok(())
+}
+
+// A call where these reads, writes of the output and writes of a line fail; 0 for none.
+fn failing_call(
+    alloc: Global,
+    words: &[&str],
+    text: &[u8],
+    (read, output, error): (usize, usize, usize),
+) -> Result<Outcome, AllocError> {
+    let host = Host {
+        read,
+        output,
+        error,
+        ..NO_FAULT
+    };
+    call(alloc, words, text, host)
 }
 
 // The same over the files of the host.

@@ -6,7 +6,6 @@ ghost use Rattle.rv_code.specs.Forms.{form_of};
 use crate::assembly::{AsmFunction, AsmInstr, Operand, Symbol};
 use crate::form::Form;
 use cp_base::Bytes;
-use itoa::{Buffer, Integer};
 use std::alloc::AllocError;
 
 pub fn put_instr(
@@ -115,7 +114,7 @@ fn put_operand(
     ensures { OnOk result (out.new ≡ out.old ++ operand_text functions.now operand) }
 {
     match operand {
-        Operand::Number(value) => put_number(out, value),
+        Operand::Number(value) => out.push_number(value),
         Operand::High(symbol) => {
             out.push_all(b"%hi(")?;
             put_symbol(out, functions, symbol)?;
@@ -152,9 +151,9 @@ pub fn put_label(out: &mut Bytes, function: usize, number: usize) -> Result<(), 
     ensures { OnOk result (out.new ≡ out.old ++ label_text function number) }
 {
     out.push_all(b".L")?;
-    put_number(out, function)?;
+    out.push_number(function)?;
     out.push_all(b"_")?;
-    put_number(out, number)
+    out.push_number(number)
 }
 
 /// A place in the data section.
@@ -167,14 +166,7 @@ pub fn put_cdata(out: &mut Bytes, offset: u128) -> Result<(), AllocError>
         return Ok(());
     }
     out.push_all(b"+")?;
-    put_number(out, offset)
-}
-
-pub fn put_number<I: Integer>(out: &mut Bytes, number: I) -> Result<(), AllocError>
-    ensures { OnOk result (out.new ≡ out.old ++ I.text number) }
-{
-    let mut buffer = Buffer::new();
-    out.push_all(buffer.format(number).as_bytes())
+    out.push_number(offset)
 }
 
 // The name of a register in the calling convention.

@@ -5,7 +5,7 @@ ghost use Rattle.rv_code.specs.Text.{line_text, function_text, item_text, item_s
 ghost use Rattle.rv_code.specs.WellFormed.{IsWellFormed};
 
 use crate::assembly::{AsmFunction, AsmLine, AsmUnit, DataItem};
-use crate::instr::{put_cdata, put_instr, put_label, put_number};
+use crate::instr::{put_cdata, put_instr, put_label};
 use crate::start::put_start;
 use cp_base::Bytes;
 use std::alloc::{AllocError, Global};
@@ -110,11 +110,11 @@ fn put_item(out: &mut Bytes, item: &DataItem) -> Result<(), AllocError>
     match item {
         DataItem::Zero(count) => {
             out.push_all(b"\t.zero ")?;
-            put_number(out, *count)?;
+            out.push_number(*count)?;
         }
         DataItem::Byte(value) => {
             out.push_all(b"\t.byte ")?;
-            put_number(out, *value)?;
+            out.push_number(*value)?;
         }
         DataItem::Address(offset) => {
             out.push_all(b"\t.word ")?;

@@ -1,15 +1,14 @@
 use Rattle.std.proofs.Common.{ap, ◌∙◌, sym, ⊎_elim}
-use Rattle.std.specs.Prelude.{option_map}
 use Rattle.clap.specs.Words.{is_simple, is_simple_and_free}
-use Rattle.cp_driver.specs.Jobs.{Compile}
-use Rattle.cp_driver.proofs.CommandLine.{command_is_simple, command_is_free, option_map-option_map, job_taken, job_refused}
-use Rattle.cp_driver.proofs.words.file_to_compile.Goals as goal
+use Rattle.cp_driver.specs.Jobs.{job_of_options}
+use Rattle.cp_driver.proofs.CommandLine.{command_is_simple, command_is_free, job_taken, job_refused}
+use Rattle.cp_driver.proofs.words.job_of.Goals as goal
 
 pub returns-in-Ok : goal.returns-in-Ok
 returns-in-Ok c =
     let same = c.in_ok-command.ensures in
-    option_map-option_map Compile (λ f. f.now) c.get_str.result
-    ∙ ap (option_map Compile) c.get_str.ensures
+    c.job.ensures
+    ∙ ap job_of_options c.options_of.ensures
     ∙ job_taken _ c.args.words.now c.in-Ok.matches same (c.in-Ok.ensures.kinds (ap is_simple_and_free same ∙ command_is_free)) (c.in-Ok.ensures.matches (ap is_simple same ∙ command_is_simple)).0
 
 pub returns : goal.returns
