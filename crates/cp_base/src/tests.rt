@@ -1,6 +1,7 @@
 // One call of each kind with ample memory.
 use crate::{
     Bytes, Failed, Files, Items, Layout, MemFiles, MemSink, Name, Names, Sink, TakeFault, put_all,
+    put_number,
 };
 use std::test::Fail;
 
@@ -9,7 +10,9 @@ fn lists_grow(rt: HostRuntime) -> Result<(), Fail> {
     let mut bytes = Bytes::new(rt.alloc());
     bytes.push_all(b"ab")?;
     bytes.push_all(b"c")?;
-    assert_eq!(rt; bytes.as_slice(), b"abc".as_slice());
+    bytes.push_number(u128::MAX)?;
+    let wanted = b"abc340282366920938463463374607431768211455".as_slice();
+    assert_eq!(rt; bytes.as_slice(), wanted);
     let mut name = Name::new(rt.alloc());
     name.push_all("r1")?;
     name.push_all(".c")?;
@@ -51,6 +54,16 @@ fn a_sink_by_pieces(rt: HostRuntime) -> Result<(), Fail> {
     assert_eq!(rt; put_all(&mut sink, b"x"), Err(Failed));
     assert_eq!(rt; put_all(&mut sink, b"more"), Err(Failed));
     assert_eq!(rt; sink.bytes(), b"sixsixmor".as_slice());
+    Ok(())
+}
+
+#[test]
+fn numbers_in_decimal(rt: HostRuntime) -> Result<(), Fail> {
+    for (number, text) in [(0, "0"), (10, "10"), (u64::MAX, "18446744073709551615")] {
+        let mut sink = MemSink::new(rt.alloc(), 1, 64)?;
+        assert_eq!(rt; put_number(&mut sink, number), Ok(()));
+        assert_eq!(rt; sink.bytes(), text.as_bytes());
+    }
     Ok(())
 }
 
