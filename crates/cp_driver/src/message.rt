@@ -2,12 +2,11 @@
 ghost use Rattle.std.specs.Prelude.{◌≡◌, ◌≤◌, ◌++◌, length, codes, OnOk, OnErr};
 ghost use Rattle.cp_base.specs.Outside.{Rose, gained, GainsFront};
 ghost use Rattle.cp_driver.specs.Messages.{HasPlace, error_text, fault_text, status_of};
-ghost use Rattle.cp_driver.specs.Pieces.{text_of};
+ghost use Rattle.cp_driver.specs.Pieces.{piece_text, text_of};
 
 use crate::report::Fault;
 use c_lexer::line_of;
-use cp_base::{Failed, Sink, put_all};
-use itoa::Buffer;
+use cp_base::{Failed, Sink, put_all, put_number};
 
 const USAGE: &str = "usage: cparser [-S] [--regs K] [--dump STAGE] [--syntax-only] [--run INPUT] \
     [--interpret INPUT] [--fuel N] [--depth D] [--stack B] [--generate SEED] [FILE]\n";
@@ -53,22 +52,27 @@ pub fn put_fault<E: Sink>(
 }
 
 // A line about a file.
-fn put_about<E: Sink>(err: &mut E, file: &str, what: &[u8]) -> Result<(), Failed>
+fn put_about<'a, E: Sink>(err: &mut E, file: &'a str, what: &'a [u8]) -> Result<(), Failed>
     ensures count { E.faults err.old ≤ E.faults err.new }
     ensures ok { OnOk result (E.written err.new ≡ gained (E.written err.old) (codes "cparser: " ++ (file.now ++ what.now))) }
     ensures front { OnErr result (GainsFront (E.written err.old) (E.written err.new) (codes "cparser: " ++ (file.now ++ what.now))) }
     ensures failed { OnErr result (Rose (E.faults err.old) (E.faults err.new)) }
 {
-    put_pieces(err, &[b"cparser: ", file.as_bytes(), what])
+    let pieces = [
+        Piece::Text(b"cparser: "),
+        Piece::Text(file.as_bytes()),
+        Piece::Text(what),
+    ];
+    put_pieces(err, &pieces)
 }
 
 // A line about a place in a file: `FILE:LINE:COL: error: ` and what is wrong there.
-fn put_error<E: Sink>(
+fn put_error<'a, E: Sink>(
     err: &mut E,
-    file: &str,
+    file: &'a str,
     bytes: &[u8],
     at: usize,
-    what: &[u8],
+    what: &'a [u8],
 ) -> Result<(), Failed>
     requires { at ≤ length bytes.now }
     ensures count { E.faults err.old ≤ E.faults err.new }
@@ -77,33 +81,46 @@ fn put_error<E: Sink>(
     ensures failed { OnErr result (Rose (E.faults err.old) (E.faults err.new)) }
 {
     let (line, column) = line_of(bytes, at);
-    let mut line_buffer = Buffer::new();
-    let mut column_buffer = Buffer::new();
-    let line = line_buffer.format(line).as_bytes();
-    let column = column_buffer.format(column).as_bytes();
-    put_pieces(
-        err,
-        &[
-            file.as_bytes(),
-            b":",
-            line,
-            b":",
-            column,
-            b": error: ",
-            what,
-        ],
-    )
+    let pieces = [
+        Piece::Text(file.as_bytes()),
+        Piece::Text(b":"),
+        Piece::Number(line as u64),
+        Piece::Text(b":"),
+        Piece::Number(column as u64),
+        Piece::Text(b": error: "),
+        Piece::Text(what),
+    ];
+    put_pieces(err, &pieces)
+}
+
+// A piece of a line.
+#[derive(Clone, Copy)]
+enum Piece<'a> {
+    Text(&'a [u8]),
+    Number(u64),
 }
 
 // Pieces, one after another.
-fn put_pieces<E: Sink>(err: &mut E, pieces: &[&[u8]]) -> Result<(), Failed>
+fn put_pieces<E: Sink>(err: &mut E, pieces: &[Piece<'_>]) -> Result<(), Failed>
     ensures count { E.faults err.old ≤ E.faults err.new }
     ensures ok { OnOk result (E.written err.new ≡ gained (E.written err.old) (text_of pieces.now)) }
     ensures front { OnErr result (GainsFront (E.written err.old) (E.written err.new) (text_of pieces.now)) }
     ensures failed { OnErr result (Rose (E.faults err.old) (E.faults err.new)) }
 {
     for piece in pieces {
-        put_all(err, piece)?;
+        put_piece(err, piece)?;
     }
     Ok(())
+}
+
+fn put_piece<E: Sink>(err: &mut E, piece: &Piece<'_>) -> Result<(), Failed>
+    ensures count { E.faults err.old ≤ E.faults err.new }
+    ensures ok { OnOk result (E.written err.new ≡ gained (E.written err.old) (piece_text piece.now)) }
+    ensures front { OnErr result (GainsFront (E.written err.old) (E.written err.new) (piece_text piece.now)) }
+    ensures failed { OnErr result (Rose (E.faults err.old) (E.faults err.new)) }
+{
+    match piece {
+        Piece::Text(text) => put_all(err, text),
+        Piece::Number(number) => put_number(err, *number),
+    }
 }

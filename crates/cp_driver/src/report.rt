@@ -19,14 +19,14 @@ pub enum Fault {
     OutOfMemory,
 }
 
-/// What the job made.
+/// What a job that compiles made.
 #[derive(Debug, Drop)]
 pub struct Report {
     pub asm: AsmUnit,
 }
 
 /// The answer: the status that the program ends with, the fault if there was one, and the report
-/// where the job was done.
+/// where the job compiles and was done.
 #[derive(Debug, Drop)]
 pub struct Done {
     pub status: u8,
