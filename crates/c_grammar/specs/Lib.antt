@@ -1,0 +1,4 @@
+pub mod Vocabulary
+pub mod Scopes
+pub mod Derivation
+pub mod Fronts

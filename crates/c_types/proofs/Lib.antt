@@ -1,0 +1,3 @@
+pub mod TreeLaws
+pub mod TableLaws
+pub mod TextLaws

@@ -1,0 +1,35 @@
+// The syntax tree as it is read, each node with its kids.
+ghost use Rattle.std.specs.Prelude.{◌≡◌, map};
+ghost use Rattle.c_types.specs.Trees.{forest_of, seen};
+
+use crate::kind::SynKind;
+use cp_base::{Bytes, Name};
+
+/// What a node has beside its kids.
+#[derive(Debug, Drop)]
+pub struct Label {
+    pub kind: SynKind,
+    /// An identifier, a word or an operator; empty where the kind has none.
+    pub text: Name,
+    /// The bytes of a string, without the zero at its end.
+    pub bytes: Bytes,
+    /// The value of an `Int` or `Char`; else 0.
+    pub value: u32,
+    /// The byte offset of its first token; for a node without one, that of the token behind its place.
+    pub start: usize,
+}
+
+/// A node and all below it.
+#[derive(Debug, Drop)]
+pub struct Tree {
+    pub(crate) label: Label,
+    pub(crate) kids: Vec<Tree>,
+}
+
+impl Tree {
+    pub fn new(label: Label, kids: Vec<Tree>) -> Tree
+        ensures { seen result ≡ record { label = label; kids = forest_of (map seen kids.items) } }
+    {
+        Tree { label, kids }
+    }
+}
