@@ -94,7 +94,7 @@ RowHasFront names row a = Unit {0}
 -- ---- words
 
 -- what holds of some texts holds of a text among them
-among : (test : List ℕ → Bool) (texts : List (List ℕ)) (text : List ℕ) → list_all test texts ≡ true → is_among texts text ≡ true → test text ≡ true
+pub among : (test : List ℕ → Bool) (texts : List (List ℕ)) (text : List ℕ) → list_all test texts ≡ true → is_among texts text ≡ true → test text ≡ true
 among test [] text all e = absurd (true≢false (sym e))
 among test (t ∷ texts) text all e = by (λ all e. among test texts text all e) (test t) refl (bytes_eq t text) refl all e
   where
@@ -104,7 +104,7 @@ among test (t ∷ texts) text all e = by (λ all e. among test texts text all e)
     by later true f false g all e = later all e
     by later false f q g all e = absurd (true≢false (sym all))
 
-not_true : (p : Bool) → not p ≡ true → p ≡ false
+pub not_true : (p : Bool) → not p ≡ true → p ≡ false
 not_true true e = sym e
 not_true false e = refl
 
@@ -115,14 +115,14 @@ type_words = codes "void" ∷ codes "char" ∷ codes "short" ∷ codes "int" ∷
 abbrev storage_words : List (List ℕ)
 storage_words = codes "typedef" ∷ codes "extern" ∷ codes "static" ∷ codes "auto" ∷ codes "register" ∷ codes "const" ∷ []
 
-no_identifier : (text : List ℕ) → is_type_word text || is_storage_word text ≡ true → is_identifier text ≡ false
+pub no_identifier : (text : List ℕ) → is_type_word text || is_storage_word text ≡ true → is_identifier text ≡ false
 no_identifier text e = by (is_type_word text) refl e
   where
     by : (p : Bool) → is_type_word text ≡ p → p || is_storage_word text ≡ true → is_identifier text ≡ false
     by true f e = not_true (is_identifier text) (among (λ t. not (is_identifier t)) type_words text refl f)
     by false f e = not_true (is_identifier text) (among (λ t. not (is_identifier t)) storage_words text refl e)
 
-keyword_specs : (names : Names) (text : List ℕ) → is_type_word text || is_storage_word text ≡ true → kind_front names (token.Word text) ≡ of_specs
+pub keyword_specs : (names : Names) (text : List ℕ) → is_type_word text || is_storage_word text ≡ true → kind_front names (token.Word text) ≡ of_specs
 keyword_specs names text e = rw (no_identifier text e, e) refl
 
 pub typedef_specs : (names : Names) (text : List ℕ) → is_identifier text ≡ true → is_typedef_name names text ≡ true → kind_front names (token.Word text) ≡ of_specs

@@ -3,7 +3,7 @@
 -- `Derives names part a b t`: the tokens from a on, up to b, are the part, its tree is t, and before it the identifiers are
 -- read by these names. `Lists names row a b ts` says the same of parts in a row and their trees. Each rule stands under its
 -- line of the grammar.
-use Rattle.std.specs.Prelude.{◌≡◌, ℕ, suc, Bool, true, false, List, [], ◌∷◌, ◌++◌, ◌||◌, not, codes}
+use Rattle.std.specs.Prelude.{◌≡◌, ℕ, suc, Bool, true, false, List, [], ◌∷◌, ◌++◌, ◌||◌, ◌&&◌, not, codes}
 use Rattle.std.specs.Str.{bytes_eq}
 use Rattle.c_lexer.specs.declared.token.IntType.{IntType}
 use Rattle.c_lexer.specs.declared.token.Punct.{Punct}
@@ -105,7 +105,7 @@ is_lone_void other = false
 
 -- the token is a typedef name
 abbrev pub is_typedef_token : Names → TokenKind → Bool
-is_typedef_token names (token.Word text) = is_typedef_name names text
+is_typedef_token names (token.Word text) = is_identifier text && is_typedef_name names text
 is_typedef_token names other = false
 
 -- the first token is

@@ -1,10 +1,13 @@
 // What holds of all derivations.
-ghost use Rattle.std.specs.Prelude.{ℕ, List};
+ghost use Rattle.std.specs.Prelude.{◌≡◌, ℕ, ◌≤◌, ◌<◌, List, []};
 ghost use Rattle.c_lexer.specs.declared.token.Token.{Token};
-ghost use Rattle.c_types.specs.Trees.{Tree, Forest};
+ghost use Rattle.c_types.specs.Trees.{Tree, Forest, height, forest_height};
 ghost use Rattle.c_grammar.specs.Scopes.{Names};
-ghost use Rattle.c_grammar.specs.Derivation.{Part, Row, Qualifiers, Literals, Derives, Lists};
+ghost use Rattle.c_grammar.specs.Derivation.{Part, Row, Qualifiers, Literals, Derives, Lists, IsTreeOf};
 ghost use Rattle.c_grammar.specs.Fronts.{IsFront};
+ghost use Rattle.c_grammar.specs.Answers.{found, wrong, deep};
+ghost use Rattle.c_grammar.specs.Reading.{Goal, Rows, read, read_unit};
+ghost use Rattle.c_grammar.specs.Meanings.{IsTree, AreTrees};
 
 /// What is derived is a front of the tokens, and it is derived too before each rest with the same first token.
 pub fn front_of_derivation()
@@ -18,4 +21,39 @@ pub fn front_of_derivation()
     ensures row { (names : Names) (row : Row) (a b : List Token) (ts : Forest)
         → Lists names row a b ts
         → IsFront (λ x y. Lists names row x y ts) a b }
+{}
+
+/// What is read within a budget is derived, and no higher than the budget.
+pub fn found_is_derived()
+    ensures goal { (d : ℕ) (goal : Goal) (names : Names) (a b : List Token) (t : Tree)
+        → (read d).tree_of goal names a ≡ found t b
+        → IsTree goal names a b t × (height t ≤ d) }
+    ensures row { (d : ℕ) (row : Rows) (names : Names) (a b : List Token) (ts : Forest)
+        → (read d).trees_of row names a ≡ found ts b
+        → AreTrees row names a b ts × (forest_height ts ≤ d) }
+    ensures unit { (d : ℕ) (a : List Token) (t : Tree)
+        → read_unit d a ≡ found t []
+        → IsTreeOf a t × (height t ≤ d) }
+{}
+
+/// What is derived is read within each budget that its height is in, and is too deep within each lower one. So
+/// what is read to be wrong has no tree of any height.
+pub fn derived_is_found()
+    ensures found { (d : ℕ) (a : List Token) (t : Tree)
+        → IsTreeOf a t
+        → height t ≤ d
+        → read_unit d a ≡ found t [] }
+    ensures too_deep { (d : ℕ) (a : List Token) (t : Tree)
+        → IsTreeOf a t
+        → d < height t
+        → (rest : List Token) × (read_unit d a ≡ deep rest) }
+    ensures wrong { (d : ℕ) (a rest : List Token) (t : Tree)
+        → read_unit d a ≡ wrong rest
+        → IsTreeOf a t
+        → ⊥ }
+{}
+
+/// Two trees of one token list are equal.
+pub fn one_tree()
+    ensures { (a : List Token) (t u : Tree) → IsTreeOf a t → IsTreeOf a u → t ≡ u }
 {}

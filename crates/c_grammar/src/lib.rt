@@ -6,17 +6,26 @@
 // The idea: `Derives` has one case for each alternative of the grammar, over whole parts: it speaks of
 // the tokens from one list on, up to a rest, and of the tree that they have. Whether an identifier is a
 // typedef name is read from the scopes before the part; the scopes behind it are a function of its tree
-// (`specs/Scopes.antt`).
+// (`specs/Scopes.antt`). `specs/Reading.antt` reads trees with a budget for their height. It serves the
+// laws, and what is said of trees elsewhere names the derivation and heights alone.
 //
-// The theorem so far, on `front_of_derivation`: what is derived is a front of the tokens, and it is
-// derived before each rest that begins with the same token. So a part is a list of tokens with the one
-// token behind it: that token gives an absent node its place, and ends specs that say no type.
-// `proofs/Derived.antt` derives short lists where a rule is easy to get wrong; `proofs/Refused.antt` has
-// what is not derived.
+// The theorem, on `one_tree`: two trees of one token list are equal. It rests on two others. On
+// `found_is_derived`: what is read within a budget is derived, and no higher than the budget. On
+// `derived_is_found`: what is derived is read within each budget that its height is in, and is too deep
+// within each lower one; so what is read to be wrong has no tree of any height. On
+// `front_of_derivation`: what is derived is a front of the tokens, and it is derived before each rest
+// that begins with the same token.
 //
-// Source: C99 6.5 to 6.9 and A.2, without what docs/DECISIONS.md leaves out.
+// The proofs: `proofs/Sound*.antt` take a reading apart; `proofs/Complete.antt` says what a derivation
+// says of the reading, `proofs/Complete*.antt` has one case for each rule, and `proofs/Completeness.antt`
+// puts them together, over the steps of `proofs/Budgets.antt`. `proofs/Derived.antt` derives short lists
+// where a rule is easy to get wrong; `proofs/Refused.antt` and `proofs/NoTrees.antt` have lists without a
+// tree.
+//
+// Source: C99 6.5 to 6.9 and A.2, without what docs/DECISIONS.md leaves out; chains that grow to the left
+// are read as loops, as in recursive descent (Aho and others, Compilers, 4.3 and 4.4).
 #![tactic(auto)]
 
 mod laws;
 
-pub use laws::front_of_derivation;
+pub use laws::{derived_is_found, found_is_derived, front_of_derivation, one_tree};
