@@ -1,4 +1,4 @@
--- What derivations of externals, declarations and initializers say of their reading.
+-- What derivations of declarations and initializers say of their reading.
 use Rattle.std.proofs.Common.{◌≡◌, ℕ, suc, ◌≤◌, Bool, true, List, ◌∷◌, length, refl, sym, arith, true≢false}
 use Rattle.std.specs.Prelude.{max, not, ◌&&◌, if◌then◌else◌}
 use Rattle.c_lexer.specs.declared.token.Punct.TheVariants.{LeftBracket, LeftParenthesis, LeftBrace, RightBrace, Semicolon, Equal}

@@ -8,13 +8,13 @@ use Rattle.c_grammar.specs.Scopes.{Names, opened, add, after, after_parameter, e
 use Rattle.c_grammar.specs.Derivation as rule
 use Rattle.c_grammar.specs.Derivation.{Derives, Lists, IsTreeOf}
 use Rattle.c_grammar.specs.Answers.{Answer, found}
-use Rattle.c_grammar.specs.Reading.{Reader, Goal, Rows, Mode, begins_specifier, begins_with_mark, behind_one, assignment_in, init_declarator_in, initializer_in, declared_in, enumerator_in, parameter_in, goal_in, rows_in, listed, listed_in_braces, members_in, items_in, externals_by, externals_in, arguments_in, length_in, level, no_reader, read, read_unit}
+use Rattle.c_grammar.specs.Reading.{Reader, Goal, Rows, Mode, begins_specifier, begins_with_mark, behind_one, assignment_in, init_declarator_in, initializer_in, declared_in, enumerator_in, parameter_in, goal_in, rows_in, listed, listed_in_braces, members_in, items_in, externals_by, externals_in, arguments_in, length_in, declarators_behind, level, no_reader, read, read_unit}
 use Rattle.c_grammar.specs.Meanings.{IsTree, AreTrees}
 use Rattle.c_grammar.proofs.SoundSteps.{Says, says_found, says_wrong, says_deep, Is, Are, said, says_then, says_map, says_if, mark_split, before}
 use Rattle.c_grammar.proofs.SoundExpressions.{IsSound, says_good, says_as, unary_sound, cast_sound, binary_sound, conditional_sound, assignment_sound, expression_sound}
 use Rattle.c_grammar.proofs.SoundTypes.{specifier_sound, specifier_list_sound, specifiers_sound}
 use Rattle.c_grammar.proofs.SoundDeclarators.{declarator_of, declared_sound, parameter_sound, type_name_sound, member_sound, enumerator_sound}
-use Rattle.c_grammar.proofs.SoundStatements.{initializer_sound, init_declarator_sound, declaration_sound, external_sound, body_sound, optional_expression_sound, statement_sound}
+use Rattle.c_grammar.proofs.SoundStatements.{initializer_sound, init_declarator_sound, init_behind_sound, declaration_sound, external_sound, body_sound, optional_expression_sound, statement_sound}
 
 -- what goes before items of a block
 abbrev IsItem : Names → List Token → List Token → Tree → Type 0
@@ -60,15 +60,24 @@ module _ (d : ℕ) (r : Reader) (sound : IsSound d r) where
         says_found (record { holds = more names ts (behind_one rest) end m.0 t us (before g m.1) s.holds; fits = omega (arith, g.fits, s.fits) }))))
         (λ e. says_found (record { holds = last names ts rest t g.holds; fits = omega (arith, g.fits) })))
 
-  init_declarators_sound : (is_typedef : Bool) (names : Names) (ts : List Token)
+  init_declarators_sound : (is_typedef : Bool) (k : ℕ) (names : Names) (ts : List Token)
       → Says (Are (suc d) (Lists names (rule.init_declarators is_typedef)) ts)
-      (listed d r (init_declarator_in d r is_typedef) (λ ns t. add ns (entries_behind is_typedef (one t))) (suc (length ts)) names ts)
-  init_declarators_sound is_typedef names ts = listed_sound
+      (listed d r (init_declarator_in d r is_typedef) (λ ns t. add ns (entries_behind is_typedef (one t))) k names ts)
+  init_declarators_sound is_typedef = listed_sound
       (λ ns. Derives ns (rule.init_declarator is_typedef)) (λ ns. Lists ns (rule.init_declarators is_typedef)) (init_declarator_in d r is_typedef) (λ ns t. add ns (entries_behind is_typedef (one t)))
       (init_declarator_sound d r sound is_typedef)
       (λ ns a b t. rule.last_init_declarator)
       (λ ns a b c at t ts. rule.more_init_declarators)
-      (suc (length ts)) names ts
+
+  declarators_behind_sound : (is_typedef : Bool) (x : Tree) (names : Names) (ts : List Token)
+      → Says (Are (suc d) (AreTrees (Rows.init_declarators_behind is_typedef x) names) ts) (declarators_behind d r is_typedef x names ts)
+  unfolding declarators_behind
+  declarators_behind_sound is_typedef x names ts = says_then (init_behind_sound d r sound is_typedef x names ts) (λ t rest g.
+      says_if (begins_with_mark Comma rest)
+      (λ e. let m = mark_split Comma rest e in
+      says_then (init_declarators_sound is_typedef _ (add names (entries_behind is_typedef (one t))) (behind_one rest)) (λ us end s.
+      says_found (record { holds = λ a h. rule.more_init_declarators (before g m.1 a h) s.holds; fits = omega (arith, g.fits, s.fits) })))
+      (λ e. says_found (record { holds = λ a h. rule.last_init_declarator (g.holds a h); fits = omega (arith, g.fits) })))
 
   declarators_sound : (names : Names) (ts : List Token)
       → Says (Are (suc d) (Lists names rule.declarators) ts) (listed d r (declared_in d r Mode.named) after (suc (length ts)) names ts)
@@ -171,7 +180,8 @@ module _ (d : ℕ) (r : Reader) (sound : IsSound d r) where
   rows_sound : (row : Rows) (names : Names) (ts : List Token) → Says (Are (suc d) (AreTrees row names) ts) (rows_in d r row names ts)
   unfolding rows_in
   rows_sound Rows.externals names ts = externals_sound (suc (length ts)) names ts
-  rows_sound (Rows.init_declarators is_typedef) names ts = init_declarators_sound is_typedef names ts
+  rows_sound (Rows.init_declarators is_typedef) names ts = init_declarators_sound is_typedef (suc (length ts)) names ts
+  rows_sound (Rows.init_declarators_behind is_typedef x) names ts = declarators_behind_sound is_typedef x names ts
   rows_sound Rows.initializers names ts = initializers_sound names ts
   rows_sound (Rows.specifier_list typed) names ts = specifier_list_sound d r sound (suc (length ts)) typed names ts
   rows_sound Rows.members names ts = members_sound (suc (length ts)) names ts
@@ -187,6 +197,7 @@ module _ (d : ℕ) (r : Reader) (sound : IsSound d r) where
   goals_sound Goal.external names ts = external_sound d r sound names ts
   goals_sound Goal.declaration names ts = declaration_sound d r sound names ts
   goals_sound (Goal.init_declarator is_typedef) names ts = init_declarator_sound d r sound is_typedef names ts
+  goals_sound (Goal.init_behind is_typedef x) names ts = init_behind_sound d r sound is_typedef x names ts
   goals_sound Goal.initializer names ts = initializer_sound d r sound names ts
   goals_sound Goal.specifiers names ts = specifiers_sound d r sound names ts
   goals_sound (Goal.specifier typed) names ts = specifier_sound d r sound typed names ts

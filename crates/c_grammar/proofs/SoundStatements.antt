@@ -1,6 +1,6 @@
 -- What is read as a declaration or a statement within a budget is derived, where the next lower budget reads so.
 use Rattle.std.proofs.Common.{◌≡◌, ℕ, suc, ◌<◌, ◌≤◌, Bool, false, ◌&&◌, ◌||◌, not, List, ◌∷◌, if◌then◌else◌, ap, ◌∙◌, arith, codes, bytes_eq}
-use Rattle.c_lexer.specs.declared.token.Punct.TheVariants.{LeftParenthesis, RightParenthesis, LeftBrace, RightBrace, Semicolon, Equal}
+use Rattle.c_lexer.specs.declared.token.Punct.TheVariants.{LeftParenthesis, RightParenthesis, LeftBrace, RightBrace, Semicolon, Equal, Comma}
 use Rattle.c_lexer.specs.declared.token.Token.{Token}
 use Rattle.c_types.specs.declared.kind.SynKind.TheVariants as kind
 use Rattle.c_types.specs.Trees.{Tree, ◌then◌, one, three, plain_node, height}
@@ -9,8 +9,8 @@ use Rattle.c_grammar.specs.Scopes.{Names, opened, says_typedef, after, in_body}
 use Rattle.c_grammar.specs.Derivation as rule
 use Rattle.c_grammar.specs.Derivation.{Derives, Lists, start, ends_open}
 use Rattle.c_grammar.specs.Answers.{Answer, Ahead, ahead}
-use Rattle.c_grammar.specs.Reading.{Reader, Goal, Rows, Mode, begins_specifier, begins_with_word, begins_with_mark, behind_one, initializer_by, initializer_in, initialized_by, init_declarator_in, declaration_behind, declaration_in, function_by, external_in, body_by, optional_expression_in, in_parentheses_then, if_in, while_in, do_in, for_behind, for_in, return_in, expression_statement_in, keyword_by, statement_by, statement_in}
-use Rattle.c_grammar.specs.Meanings.{IsBody, body_of}
+use Rattle.c_grammar.specs.Reading.{Reader, Goal, Rows, Mode, begins_specifier, begins_with_word, begins_with_mark, behind_one, initializer_by, initializer_in, initialized_by, init_declarator_in, init_behind_by, init_behind_in, declaration_behind, declaration_in, declaration_from, function_by, external_in, body_by, optional_expression_in, in_parentheses_then, if_in, while_in, do_in, for_behind, for_in, return_in, expression_statement_in, keyword_by, statement_by, statement_in}
+use Rattle.c_grammar.specs.Meanings.{IsTree, IsBody, body_of}
 use Rattle.c_grammar.proofs.FirstTokens.{not_true}
 use Rattle.c_grammar.proofs.SoundSteps.{Says, says_wrong, Is, says_then, says_if, says_fit, says_any, says_expect, says_expect_word, says_close, IsAhead, is_mark, is_word, ahead_is, word_is, both_true, mark_split, word_split, before}
 use Rattle.c_grammar.proofs.SoundExpressions.{IsSound, says_good, says_as, expression_sound, assignment_sound}
@@ -60,6 +60,21 @@ module _ (d : ℕ) (r : Reader) (sound : IsSound d r) where
       (says_as (λ t b. declarator_of) (says_lower_tree d (declared_sound d r sound Mode.named names ts) (sound.tree (Goal.declared Mode.named) names ts)))
       (λ x rest g. initialized_sound is_typedef g (ahead_is rest))
 
+  -- the same behind its declarator x
+  init_behind_sound_by : (is_typedef : Bool) (x : Tree) (names : Names) {ts : List Token} {h : Ahead} → IsAhead ts h
+      → Says (Is (suc d) (IsTree (Goal.init_behind is_typedef x) names) ts) (init_behind_by d r is_typedef names x ts h)
+  unfolding init_behind_by
+  init_behind_sound_by is_typedef x names (is_mark {p = Equal}) = says_fit _ _ _ (λ le.
+      says_then (sound.tree Goal.initializer _ _) (λ y end s. says_good (λ a g. rule.initialized g s.holds) (omega (arith, le, s.fits))))
+  init_behind_sound_by is_typedef x names (is_mark {p = Comma}) = says_fit _ _ _ (λ le. says_good (λ a g. rule.uninitialized g) (omega (arith, le)))
+  init_behind_sound_by is_typedef x names (is_mark {p = Semicolon}) = says_fit _ _ _ (λ le. says_good (λ a g. rule.uninitialized g) (omega (arith, le)))
+  init_behind_sound_by is_typedef x names _ = says_wrong
+
+  pub init_behind_sound : (is_typedef : Bool) (x : Tree) (names : Names) (ts : List Token)
+      → Says (Is (suc d) (IsTree (Goal.init_behind is_typedef x) names) ts) (init_behind_in d r is_typedef x names ts)
+  unfolding init_behind_in
+  init_behind_sound is_typedef x names ts = init_behind_sound_by is_typedef x names (ahead_is ts)
+
   declaration_behind_sound : {names : Names} {a : List Token} (s : Tree) (ts : List Token)
       → Is d (Derives names rule.specifiers) a s ts
       → Says (Is (suc d) (Derives names rule.declaration) a) (declaration_behind d r names s ts)
@@ -73,24 +88,29 @@ module _ (d : ℕ) (r : Reader) (sound : IsSound d r) where
   unfolding declaration_in
   declaration_sound names ts = says_then (specs_sound d r sound names ts) declaration_behind_sound
 
-  as_external : (names : Names) (ts : List Token) → Says (Is (suc d) (Derives names rule.external) ts) (declaration_in d r names ts)
-  as_external names ts = says_as (λ t b. rule.declared) (declaration_sound names ts)
+  declaration_from_sound : {names : Names} {a rest ts : List Token} {s x : Tree}
+      → Is d (Derives names rule.specifiers) a s rest
+      → Is d (Derives (after names s) rule.declarator) rest x ts
+      → Says (Is (suc d) (Derives names rule.external) a) (declaration_from d r names s x ts)
+  unfolding declaration_from
+  declaration_from_sound {rest = rest} {s = s} {x = x} g i = says_then (sound.trees (Rows.init_declarators_behind (says_typedef (one s)) x) _ _) (λ xs behind h.
+      says_close Semicolon h (λ at end c. says_good (rule.declared (rule.full_declaration g.holds (c rest i.holds))) (omega (arith, g.fits, h.fits))))
 
   function_sound : {names : Names} {a rest ts : List Token} {s x : Tree} {h : Ahead}
       → Is d (Derives names rule.specifiers) a s rest
       → Is d (Derives (after names s) rule.declarator) rest x ts
       → IsAhead ts h
-      → Says (Is (suc d) (Derives names rule.external) a) (function_by d r names a ts s x h)
+      → Says (Is (suc d) (Derives names rule.external) a) (function_by d r names s x ts h)
   unfolding function_by
-  function_sound {names} {a} g i (is_mark {p = LeftBrace}) = says_then (sound.tree Goal.body _ _) (λ b end s.
+  function_sound g i (is_mark {p = LeftBrace}) = says_then (sound.tree Goal.body _ _) (λ b end s.
       says_good (function_of g.holds i.holds s.holds) (omega (arith, g.fits, i.fits, s.fits)))
-  function_sound {names} {a} g i _ = as_external names a
+  function_sound g i _ = declaration_from_sound g i
 
   pub external_sound : (names : Names) (ts : List Token) → Says (Is (suc d) (Derives names rule.external) ts) (external_in d r names ts)
   unfolding external_in
   external_sound names ts = says_then (specs_sound d r sound names ts) (λ s rest g.
       says_if (begins_with_mark Semicolon rest)
-      (λ e. as_external names ts)
+      (λ e. says_good (rule.declared (rule.bare_declaration (before g (mark_split Semicolon rest e).1))) (omega (arith, g.fits)))
       (λ e. says_then (says_as (λ t b. declarator_of) (sound.tree (Goal.declared Mode.named) (after names s) rest)) (λ x behind i.
       function_sound g i (ahead_is behind))))
 

@@ -13,7 +13,7 @@ use Rattle.c_grammar.specs.Derivation as rule
 use Rattle.c_grammar.specs.Derivation.{Derives, Lists, start, no_name, is_typedef_token, begins_with_typedef_name}
 use Rattle.c_grammar.specs.Answers.{Answer, Ahead, ahead, ahead_by}
 use Rattle.c_grammar.specs.Reading.{Reader, Goal, Rows, lower, begins_specifier, begins_specifier_by, body_in, tagged_by, tag_by, specifier_by, specifier_in, specifier_list_in, specifiers_in, specs_first}
-use Rattle.c_grammar.specs.Meanings.{row_of}
+use Rattle.c_grammar.specs.Meanings.{AreTrees}
 use Rattle.c_grammar.proofs.FirstTokens.{not_true}
 use Rattle.c_grammar.proofs.SoundSteps.{Says, says_found, says_wrong, Is, Are, says_then, says_map, says_if, says_fit, says_lower, says_close, IsAhead, is_mark, is_word, ahead_is, word_is, both_true}
 use Rattle.c_grammar.proofs.SoundShapes.{some_specs}
@@ -52,7 +52,7 @@ no_more_specs false false names (t ∷ rest) e = by t.kind e
 
 module _ (d : ℕ) (r : Reader) (sound : IsSound d r) where
   body_sound : {R : List Token → List Token → Tree → Type 0} (k : SynKind) (row : Rows) (names : Names) (tag : List ℕ) (at : Place) (a rest : List Token)
-      → ((c : List Token) (at2 : Place) (ts : Forest) → Lists names (row_of row) rest (mark RightBrace at2 ∷ c) ts → R a c (text_node k tag at.start ts))
+      → ((c : List Token) (at2 : Place) (ts : Forest) → AreTrees row names rest (mark RightBrace at2 ∷ c) ts → R a c (text_node k tag at.start ts))
       → Says (Is (suc d) R a) (body_in d r k row names tag at rest)
   unfolding body_in
   body_sound k row names tag at a rest body = says_fit _ _ _ (λ le.
@@ -62,11 +62,11 @@ module _ (d : ℕ) (r : Reader) (sound : IsSound d r) where
   -- `struct` and `enum`
   module _ (R : List Token → List Token → Tree → Type 0) (k : SynKind) (row : Rows) (names : Names) (keyword : List ℕ) (at : Place)
       (without_tag : (a b : List Token) (at2 at3 : Place) (ts : Forest)
-      → Lists names (row_of row) a (mark RightBrace at3 ∷ b) ts
+      → AreTrees row names a (mark RightBrace at3 ∷ b) ts
       → R (word keyword at ∷ mark LeftBrace at2 ∷ a) b (text_node k [] at.start ts))
       (with_tag : (text : List ℕ) (a b : List Token) (at2 at3 at4 : Place) (ts : Forest)
       → is_identifier text ≡ true
-      → Lists names (row_of row) a (mark RightBrace at4 ∷ b) ts
+      → AreTrees row names a (mark RightBrace at4 ∷ b) ts
       → R (word keyword at ∷ word text at2 ∷ mark LeftBrace at3 ∷ a) b (text_node k text at.start ts))
       (tag_alone : (text : List ℕ) (b : List Token) (at2 : Place)
       → is_identifier text ≡ true

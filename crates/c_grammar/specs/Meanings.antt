@@ -34,6 +34,8 @@ abbrev pub IsTree : Goal → Names → List Token → List Token → Tree → Ty
 IsTree Goal.external names = Derives names Part.external
 IsTree Goal.declaration names = Derives names Part.declaration
 IsTree (Goal.init_declarator is_typedef) names = Derives names (Part.init_declarator is_typedef)
+-- from behind a declarator with the tree x, whichever its tokens are
+IsTree (Goal.init_behind is_typedef x) names = λ b c t. (a : List Token) → Derives names declarator a b x → Derives names (Part.init_declarator is_typedef) a c t
 IsTree Goal.initializer names = Derives names Part.initializer
 IsTree Goal.specifiers names = Derives names Part.specifiers
 IsTree (Goal.specifier typed) names = Derives names (Part.specifier typed)
@@ -52,18 +54,16 @@ IsTree (Goal.binary n) names = Derives names (Part.binary n)
 IsTree Goal.cast names = Derives names Part.cast
 IsTree Goal.unary names = Derives names Part.unary
 
-abbrev pub row_of : Rows → Row
-row_of Rows.externals = Row.externals
-row_of (Rows.init_declarators is_typedef) = Row.init_declarators is_typedef
-row_of Rows.initializers = Row.initializers
-row_of (Rows.specifier_list typed) = Row.specifier_list typed
-row_of Rows.members = Row.members
-row_of Rows.declarators = Row.declarators
-row_of Rows.enumerators = Row.enumerators
-row_of Rows.parameters = Row.parameters
-row_of Rows.block_items = Row.block_items
-row_of Rows.arguments = Row.arguments
-row_of Rows.optional_length = Row.optional_length
-
 abbrev pub AreTrees : Rows → Names → List Token → List Token → Forest → Type 0
-AreTrees row names = Lists names (row_of row)
+AreTrees Rows.externals names = Lists names Row.externals
+AreTrees (Rows.init_declarators is_typedef) names = Lists names (Row.init_declarators is_typedef)
+AreTrees (Rows.init_declarators_behind is_typedef x) names = λ b c ts. (a : List Token) → Derives names declarator a b x → Lists names (Row.init_declarators is_typedef) a c ts
+AreTrees Rows.initializers names = Lists names Row.initializers
+AreTrees (Rows.specifier_list typed) names = Lists names (Row.specifier_list typed)
+AreTrees Rows.members names = Lists names Row.members
+AreTrees Rows.declarators names = Lists names Row.declarators
+AreTrees Rows.enumerators names = Lists names Row.enumerators
+AreTrees Rows.parameters names = Lists names Row.parameters
+AreTrees Rows.block_items names = Lists names Row.block_items
+AreTrees Rows.arguments names = Lists names Row.arguments
+AreTrees Rows.optional_length names = Lists names Row.optional_length

@@ -28,6 +28,8 @@ pub data Goal : Type 0 where
   external : Goal
   declaration : Goal
   init_declarator : Bool → Goal
+  -- what stands behind its declarator
+  init_behind : Bool → Tree → Goal
   initializer : Goal
   specifiers : Goal
   specifier : Bool → Goal
@@ -51,6 +53,8 @@ pub data Goal : Type 0 where
 pub data Rows : Type 0 where
   externals : Rows
   init_declarators : Bool → Rows
+  -- the first of them behind its declarator
+  init_declarators_behind : Bool → Tree → Rows
   initializers : Rows
   specifier_list : Bool → Rows
   members : Rows
@@ -414,6 +418,17 @@ module _ (d : ℕ) (r : Reader) where
   init_declarator_in is_typedef names ts = and_then (lower d (declared_in named names ts) (r.tree_of (declared named) names ts)) (λ x rest.
       initialized_by is_typedef names x rest (ahead rest))
 
+  -- an initialized declarator from behind its declarator x, which was read within the same budget
+  unfoldable pub init_behind_by : Bool → Names → Tree → List Token → Ahead → Answer Tree
+  init_behind_by is_typedef names x ts (mark_ahead Equal at rest) = fit (suc (height x)) d rest (
+      and_then (r.tree_of initializer (after_declarator names is_typedef x) rest) (λ y end. found (plain_node kind.InitDecl (start x) (two x y)) end))
+  init_behind_by is_typedef names x ts (mark_ahead Comma at rest) = fit (suc (height x)) d rest (found (plain_node kind.InitDecl (start x) (one x)) ts)
+  init_behind_by is_typedef names x ts (mark_ahead Semicolon at rest) = fit (suc (height x)) d rest (found (plain_node kind.InitDecl (start x) (one x)) ts)
+  init_behind_by is_typedef names x ts next = wrong ts
+
+  unfoldable pub init_behind_in : Bool → Tree → Names → List Token → Answer Tree
+  init_behind_in is_typedef x names ts = init_behind_by is_typedef names x ts (ahead ts)
+
   -- behind specs
   unfoldable pub declaration_behind : Names → Tree → List Token → Answer Tree
   declaration_behind names s ts = if begins_with_mark Semicolon ts then found (plain_node kind.Declaration (start s) (one s)) (behind_one ts)
@@ -423,16 +438,21 @@ module _ (d : ℕ) (r : Reader) where
   unfoldable pub declaration_in : Names → List Token → Answer Tree
   declaration_in names ts = and_then (specs_first names ts) (declaration_behind names)
 
-  -- the body of a function, or else the tokens are a declaration
-  unfoldable pub function_by : Names → List Token → List Token → Tree → Tree → Ahead → Answer Tree
-  function_by names ts behind s x (mark_ahead LeftBrace at rest) = and_then (r.tree_of body (in_body names s x) behind) (λ b end.
+  -- a declaration behind its specs and its first declarator
+  unfoldable pub declaration_from : Names → Tree → Tree → List Token → Answer Tree
+  declaration_from names s x ts = and_then (r.trees_of (init_declarators_behind (says_typedef (one s)) x) (after names s) ts) (λ xs behind.
+      expect Semicolon behind (λ end. found (plain_node kind.Declaration (start s) (s then xs)) end))
+
+  -- the body of a function, or what goes on with a declaration
+  unfoldable pub function_by : Names → Tree → Tree → List Token → Ahead → Answer Tree
+  function_by names s x ts (mark_ahead LeftBrace at rest) = and_then (r.tree_of body (in_body names s x) ts) (λ b end.
       found (plain_node kind.Function (start s) (three s x b)) end)
-  function_by names ts behind s x other = declaration_in names ts
+  function_by names s x ts next = declaration_from names s x ts
 
   unfoldable pub external_in : Names → List Token → Answer Tree
   external_in names ts = and_then (specs_first names ts) (λ s rest.
-      if begins_with_mark Semicolon rest then declaration_in names ts
-      else and_then (r.tree_of (declared named) (after names s) rest) (λ x behind. function_by names ts behind s x (ahead behind)))
+      if begins_with_mark Semicolon rest then found (plain_node kind.Declaration (start s) (one s)) (behind_one rest)
+      else and_then (r.tree_of (declared named) (after names s) rest) (λ x behind. function_by names s x behind (ahead behind)))
 
   -- ---- statements
 
@@ -517,6 +537,7 @@ module _ (d : ℕ) (r : Reader) where
   goal_in external names ts = external_in names ts
   goal_in declaration names ts = declaration_in names ts
   goal_in (init_declarator is_typedef) names ts = init_declarator_in is_typedef names ts
+  goal_in (init_behind is_typedef x) names ts = init_behind_in is_typedef x names ts
   goal_in initializer names ts = initializer_in names ts
   goal_in specifiers names ts = specifiers_in names ts
   goal_in (specifier typed) names ts = specifier_in typed names ts
@@ -579,9 +600,16 @@ module _ (d : ℕ) (r : Reader) where
   unfoldable pub length_in : Names → List Token → Answer Forest
   length_in names ts = if begins_with_mark RightBracket ts then found none ts else and_then (conditional_in names ts) (λ x end. found (one x) end)
 
+  unfoldable pub declarators_behind : Bool → Tree → Names → List Token → Answer Forest
+  declarators_behind is_typedef x names ts = and_then (init_behind_in is_typedef x names ts) (λ t rest.
+      if begins_with_mark Comma rest then
+      and_then (listed (init_declarator_in is_typedef) (λ ns t. add ns (entries_behind is_typedef (one t))) (suc (length rest)) (add names (entries_behind is_typedef (one t))) (behind_one rest)) (λ more end. found (t then more) end)
+      else found (one t) rest)
+
   unfoldable pub rows_in : Rows → Names → List Token → Answer Forest
   rows_in externals names ts = externals_in (suc (length ts)) names ts
   rows_in (init_declarators is_typedef) names ts = listed (init_declarator_in is_typedef) (λ ns t. add ns (entries_behind is_typedef (one t))) (suc (length ts)) names ts
+  rows_in (init_declarators_behind is_typedef x) names ts = declarators_behind is_typedef x names ts
   rows_in initializers names ts = listed_in_braces initializer_in (suc (length ts)) names ts
   rows_in (specifier_list typed) names ts = specifier_list_in (suc (length ts)) typed names ts
   rows_in members names ts = members_in (suc (length ts)) names ts
