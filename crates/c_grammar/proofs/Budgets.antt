@@ -52,6 +52,33 @@ module _ {T : Type 0} where
   unfolding fit
   beyond needed d rest answer lt = let less : nat_lt d needed ≡ true = grind (arith, nat_tests) in ap (λ b. if b then deep rest else answer) less
 
+  -- one more look at the budget, behind a later token, where the height needs it anyway
+  pub leads_fit : (needed d e h : ℕ) (rest : List Token) (answer next : Answer T) → suc e ≡ d → needed ≤ suc h
+      → Leads answer e h next
+      → Leads (fit needed d rest answer) e h next
+  leads_fit needed d e h rest answer next near some r = at (order needed d)
+    where
+      at : (needed ≤ d) ⊎ (d < needed) → Leads (fit needed d rest answer) e h next
+      at (inl le) = leads_from _ _ e h next (within needed d rest answer le) r
+      at (inr over) = record {
+        low = λ le. absurd (omega (arith, le, over, some, near));
+        high = λ lt. record { behind = rest; too_deep = beyond needed d rest answer over };
+      }
+
+  -- the same within another look
+  pub leads_fit_within : (first needed d h : ℕ) (a rest : List Token) (answer next : Answer T) → needed ≤ h
+      → Leads (fit first d a answer) d h next
+      → Leads (fit first d a (fit needed d rest answer)) d h next
+  leads_fit_within first needed d h a rest answer next le r = at (order needed d)
+    where
+      deep_there : d < needed → (first ≤ d) ⊎ (d < first) → IsDeep (fit first d a (fit needed d rest answer))
+      deep_there over (inl le) = record { behind = rest; too_deep = within first d a (fit needed d rest answer) le ∙ beyond needed d rest answer over }
+      deep_there over (inr lt) = record { behind = a; too_deep = beyond first d a (fit needed d rest answer) lt }
+
+      at : (needed ≤ d) ⊎ (d < needed) → Leads (fit first d a (fit needed d rest answer)) d h next
+      at (inl fits) = leads_from _ _ d h next (ap (λ x. fit first d a x) (within needed d rest answer fits)) r
+      at (inr over) = record { low = λ low. absurd (omega (arith, le, low, over)); high = λ lt. deep_there over (order first d) }
+
 module _ {T U : Type 0} (x : Answer T) (go : T → List Token → Answer U) where
   pub then_found : (t : T) (c : List Token) → x ≡ found t c → and_then x go ≡ go t c
   unfolding and_then
@@ -113,7 +140,7 @@ module _ (d : ℕ) (start : Answer Tree) (tail : ℕ → Tree → List Token →
   -- one link more: behind x the tail reads what has the height k in all, and goes on with y
   pub chain_goes_on : (h k : ℕ) (x y : Tree) (ts c rest : List Token) (parts : (Tree → List Token → Answer Tree) → Reader → Answer Tree)
       → Chain h x ts
-      → ((go : Tree → List Token → Answer Tree) (e : ℕ) → Leads (parts go (read e)) e k (go y c))
+      → ((go : Tree → List Token → Answer Tree) (e : ℕ) → suc e ≡ d → Leads (parts go (read e)) e k (go y c))
       → ((n : ℕ) → (go : Tree → List Token → Answer Tree) × (tail n x ts ≡ fit (suc h) d rest (parts go (below d))) × ((m : ℕ) → n ≡ suc m → go y c ≡ tail m y c))
       → Chain (suc (max h k)) y c
   chain_goes_on h k x y ts c rest parts chain kids step = record {
@@ -133,7 +160,7 @@ module _ (d : ℕ) (start : Answer Tree) (tail : ℕ → Tree → List Token →
       more e same le (suc m) far begun = (
         m,
         omega (arith, far),
-        begun ∙ link e same (omega (arith, le, same)) (suc m) ∙ (kids (step (suc m)).0 e).low (omega (arith, le, same)) ∙ (step (suc m)).2 m refl,
+        begun ∙ link e same (omega (arith, le, same)) (suc m) ∙ (kids (step (suc m)).0 e same).low (omega (arith, le, same)) ∙ (step (suc m)).2 m refl,
       )
 
       on : suc (max h k) ≤ d → (n : ℕ) → n ≡ d → (m : ℕ) × (d ≤ m + suc (max h k)) × (start ≡ tail m y c)
@@ -142,7 +169,7 @@ module _ (d : ℕ) (start : Answer Tree) (tail : ℕ → Tree → List Token →
 
       too_late : (e : ℕ) → suc e ≡ d → h ≤ e → d < suc (max h k) → (n : ℕ) → start ≡ tail n x ts → IsDeep start
       too_late e same le lt n begun =
-          let last = (kids (step n).0 e).high (omega (arith, lt, same, le)) in
+          let last = (kids (step n).0 e same).high (omega (arith, lt, same, le)) in
           record { behind = last.behind; too_deep = begun ∙ link e same le n ∙ last.too_deep }
 
       at_once : d < suc h → (n : ℕ) → start ≡ tail n x ts → IsDeep start

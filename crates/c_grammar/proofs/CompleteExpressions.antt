@@ -227,7 +227,7 @@ module _ (d : ℕ) (begun : Answer Tree) (tail : ℕ → Tree → List Token →
   -- one link, where this is how the tail reads it
   pub chain_link : suc (max h k) ≡ n → tail zero x ts ≡ fit (suc h) d rest (parts dead (below d)) → ((m : ℕ) → tail (suc m) x ts ≡ fit (suc h) d rest (parts (tail m) (below d)))
       → ((go : Tree → List Token → Answer Tree) (e : ℕ) → Leads (parts go (read e)) e k (go y c)) → Chain d begun tail h x ts → Chain d begun tail n y c
-  chain_link same first later kids chain = subst (λ m. Chain d begun tail m y c) same (chain_goes_on d begun tail h k x y ts c rest parts chain kids step)
+  chain_link same first later kids chain = subst (λ m. Chain d begun tail m y c) same (chain_goes_on d begun tail h k x y ts c rest parts chain (λ go e near. kids go e) step)
     where
       step : (n : ℕ) → (go : Tree → List Token → Answer Tree) × (tail n x ts ≡ fit (suc h) d rest (parts go (below d))) × ((m : ℕ) → n ≡ suc m → go y c ≡ tail m y c)
       step zero = (dead, first, λ m e. absurd (omega (arith, e)))

@@ -14,12 +14,13 @@ use Rattle.c_types.specs.Trees.{Tree, ◌then◌, one, two, three, text_node, pl
 use Rattle.c_grammar.specs.Vocabulary.{is_among, is_identifier, is_type_word, is_storage_word, is_unary_operator, is_assignment, level_of, Place, mark, word}
 use Rattle.c_grammar.specs.Scopes.{Names, is_typedef_name, after}
 use Rattle.c_grammar.specs.Derivation.{Part, Row, Derives, Lists, Literals, start}
-use Rattle.c_grammar.specs.Answers.{Answer, found, and_then, fit, Ahead, nothing_ahead, mark_ahead, word_ahead, integer_ahead, character_ahead, string_ahead, ahead, ahead_by, expect, expect_by}
-use Rattle.c_grammar.specs.Reading.{Reader, Goal, begins_with_mark_by, begins_specifier, begins_specifier_by, suffix_by, suffixes, postfix_in, unary_by, unary_in, size_in, cast_by, cast_in, operand_by, operands, binary_in, choice_by, conditional_in, assigned_by, assignment_in, comma_by, commas, expression_in, goal_in, level, read, is_unary_by}
+use Rattle.c_grammar.specs.Answers.{Answer, found, and_then, fit, Ahead, nothing_ahead, mark_ahead, word_ahead, integer_ahead, character_ahead, string_ahead, ahead, ahead_by, expect, expect_by, deep}
+use Rattle.c_grammar.specs.Reading.{Reader, Goal, begins_with_mark_by, begins_specifier, begins_specifier_by, suffix_by, suffixes, postfix_in, unary_by, unary_in, size_in, cast_by, cast_in, operand_by, operands, binary_in, choice_by, conditional_in, assigned_by, assignment_in, comma_by, commas, expression_in, goal_in, level, read, is_unary_by, begins_with_mark, primary_by, behind_one}
 use Rattle.c_grammar.specs.Derivation
-use Rattle.c_grammar.proofs.Budgets.{order, within, beyond, then_found, then_deep, Leads, Finds, leads_from, leads_height, leads_here, leads_then, below, chain_ends}
+use Rattle.c_grammar.proofs.Budgets.{order, within, beyond, then_found, then_deep, Leads, Finds, leads_from, leads_height, leads_here, leads_then, below, chain_ends, leads_fit_within}
 use Rattle.c_grammar.proofs.Complete.{Complete, Is, begins_type_by, no_suffix_by, no_operator_by, no_assignment_by, no_string, ends_postfix, ends_binary, ends_conditional}
 use Rattle.c_grammar.proofs.CompleteExpressions.{tags, statement_words, nested, node_of, chain_link, dead, expression_finds}
+use Rattle.c_grammar.proofs.SoundSteps.{mark_split}
 use Rattle.c_grammar.proofs.FirstTokens.{has_front, front, Front, mark_front, of_statement, other, kind_front, word_front, keyword_front, of_expression, of_specs, begins_statement, among, not_true}
 
 -- ---- unary expressions
@@ -111,20 +112,44 @@ c_operator {op} {names} {a} {b} {x} {at} unary h stop d = record {
 }
 
 -- `sizeof` behind which no type stands in parentheses
-size_plain : (d : ℕ) (r : Reader) (names : Names) (at : Place) (rest : List Token) (h : Ahead) → begins_type_by names h ≡ false
-    → size_in d r names at rest h ≡ and_then (r.tree_of Goal.unary names rest) (λ x end. found (plain_node kind.SizeExpr at.start (one x)) end)
+size_leads : (d h : ℕ) (r : Reader) (names : Names) (at : Place) (a : List Token) (next : Ahead) (answer : Answer Tree) → begins_type_by names next ≡ false
+    → (begins_with_mark_by LeftParenthesis next ≡ true → 3 ≤ h)
+    → Leads (fit 2 d a (and_then (r.tree_of Goal.unary names a) (λ x end. found (plain_node kind.SizeExpr at.start (one x)) end))) d h answer
+    → Leads (fit 2 d a (size_in d r names at a next)) d h answer
 unfolding size_in
-size_plain d r names at rest (mark_ahead LeftParenthesis at2 rest2) e = ap (λ p. if p then
+size_leads d h r names at a (mark_ahead LeftParenthesis at2 rest2) answer e high f = leads_from _ _ d h answer
+    (ap (λ p. fit 2 d a (fit 3 d rest2 (if p then
     and_then (r.tree_of Goal.type_name names rest2) (λ t behind.
     expect RightParenthesis behind (λ end. found (plain_node kind.SizeType at.start (one t)) end))
-    else and_then (r.tree_of Goal.unary names rest) (λ x end. found (plain_node kind.SizeExpr at.start (one x)) end)) e
-size_plain d r names at rest (mark_ahead p at2 rest2) e = refl
-size_plain d r names at rest next e = refl
+    else and_then (r.tree_of Goal.unary names a) (λ x end. found (plain_node kind.SizeExpr at.start (one x)) end)))) e)
+    (leads_fit_within 2 3 d h a rest2 _ answer (high refl) f)
+size_leads d h r names at a (mark_ahead p at2 rest2) answer e high f = f
+size_leads d h r names at a next answer e high f = f
+
+is_deep : Answer Tree → Bool
+is_deep (deep rest) = true
+is_deep next = false
+
+parenthesis_deep : (names : Names) (at : Place) (a rest : List Token) → a ≡ mark LeftParenthesis at ∷ rest → unary_in 1 (below 1) names a ≡ deep rest
+unfolding unary_in unary_by postfix_in primary_by and_then fit ahead ahead_by
+parenthesis_deep names at a rest same = rw same refl
+
+-- an expression that begins with a parenthesis is as high as 2
+parenthesis_height : (names : Names) (a b : List Token) (x : Tree) → begins_with_mark LeftParenthesis a ≡ true
+    → Finds (unary_in 1 (below 1) names a) 1 (height x) x b → 2 ≤ height x
+unfolding is_deep
+parenthesis_height names a b x e f = at (order (height x) 1)
+  where
+    at : (height x ≤ 1) ⊎ (1 < height x) → 2 ≤ height x
+    at (inr lt) = lt
+    at (inl le) = let first = mark_split LeftParenthesis a e in
+        absurd (true≢false (ap is_deep (sym (parenthesis_deep names first.0 a (behind_one a) first.1) ∙ f.low le)))
 
 pub c_size_of_expression : {names : Names} {a b : List Token} {x : Tree} {at : Place} → Complete names Part.unary a b x → Complete names Part.unary (word (codes "sizeof") at ∷ a) b (plain_node kind.SizeExpr at.start (one x))
 unfolding ahead ahead_by unary_in unary_by cast_in cast_by goal_in
 c_size_of_expression {names} {a} {b} {x} {at} h stop d = record {
-  finds = leads_from _ _ d _ _ (ap (λ (answer : Answer Tree). fit 2 d a answer) (size_plain d (below d) names at a (ahead a) (h stop d).no_type))
+  finds = size_leads d _ (below d) names at a (ahead a) _ (h stop d).no_type
+      (λ e. let high = parenthesis_height names a b x e (h stop 1).finds in omega (arith, high))
       (one_part names a b x (λ y. plain_node kind.SizeExpr at.start (one y)) (omega arith) Goal.unary (λ e. (h stop e).finds) d);
   casts = refl;
   no_type = refl;
@@ -224,15 +249,20 @@ specs_front names (t ∷ rest) e = by t.kind e
     by (token.Char value) e = absurd (no_expression e)
     by (token.Str bytes) e = absurd (no_expression e)
 
+type_height : {names : Names} {a b : List Token} {t : Tree} → Derives names Part.type_name a b t → 2 ≤ height t
+type_height (Derivation.bare_type d) = omega arith
+type_height (Derivation.derived_type d e) = omega arith
+
 pub c_size_of_type : {names : Names} {a b : List Token} {at3 at at2 : Place} {t : Tree} → Derives names Part.type_name a (mark RightParenthesis at3 ∷ b) t → Complete names Part.type_name a (mark RightParenthesis at3 ∷ b) t
     → Complete names Part.unary (word (codes "sizeof") at ∷ mark LeftParenthesis at2 ∷ a) b (plain_node kind.SizeType at.start (one t))
 unfolding ahead ahead_by unary_in unary_by cast_in cast_by size_in
 c_size_of_type {names} {a} {b} {at3} {at} {at2} {t} derived h stop d = record {
-  finds = leads_from _ _ d _ _ (ap (λ p. fit 2 d (mark LeftParenthesis at2 ∷ a) (if p then
+  finds = leads_from _ _ d _ _ (ap (λ p. fit 2 d (mark LeftParenthesis at2 ∷ a) (fit 3 d a (if p then
       and_then ((below d).tree_of Goal.type_name names a) (λ t behind.
       expect RightParenthesis behind (λ end. found (plain_node kind.SizeType at.start (one t)) end))
-      else and_then ((below d).tree_of Goal.unary names (mark LeftParenthesis at2 ∷ a)) (λ x end. found (plain_node kind.SizeExpr at.start (one x)) end))) (specs_front names a (has_front derived)))
-      (type_part names (mark LeftParenthesis at2 ∷ a) a b at3 t (λ y. plain_node kind.SizeType at.start (one y)) (omega arith) h d);
+      else and_then ((below d).tree_of Goal.unary names (mark LeftParenthesis at2 ∷ a)) (λ x end. found (plain_node kind.SizeExpr at.start (one x)) end)))) (specs_front names a (has_front derived)))
+      (leads_fit_within 2 3 d _ (mark LeftParenthesis at2 ∷ a) a _ _ (let high = type_height derived in omega (arith, high))
+      (type_part names (mark LeftParenthesis at2 ∷ a) a b at3 t (λ y. plain_node kind.SizeType at.start (one y)) (omega arith) h d));
   casts = refl;
   no_type = refl;
 }

@@ -139,7 +139,7 @@ module _ (d : ℕ) (begun : Answer Tree) (names : Names) (x : Tree) where
       let parts : (Tree → List Token → Answer Tree) → Reader → Answer Tree = λ go r. and_then (r.trees_of reading.optional_length (after_any names x) b) (behind go) in
       chain_height d begun (λ k. declared_suffixes d (below d) k names) (suc (max (height x) (max (forest_height n) 0))) _ y c (omega arith) (
       chain_goes_on d begun (λ k. declared_suffixes d (below d) k names) (height x) (max (forest_height n) 0) x y (mark LeftBracket at ∷ b) c b parts chain
-      (λ go e. leads_then ((read e).trees_of reading.optional_length (after_any names x) b) (behind go) e (forest_height n) 0 n (mark RightBracket at2 ∷ c) _
+      (λ go e near. leads_then ((read e).trees_of reading.optional_length (after_any names x) b) (behind go) e (forest_height n) 0 n (mark RightBracket at2 ∷ c) _
       (rw same (row_leads e reading.optional_length inner b (finds e))) (leads_here _ e))
       step)
     where
@@ -151,7 +151,7 @@ module _ (d : ℕ) (begun : Answer Tree) (names : Names) (x : Tree) where
 
   -- one list of parameters more
   pub takes_chain : (at : Place) (b c : List Token) (y : Tree) (k : ℕ) → Is (is_named (one x)) → height y ≡ suc (max (height x) k)
-      → ((go : Tree → List Token → Answer Tree) (e : ℕ) → Leads (takes_in d (read e) names x b go) e k (go y c))
+      → ((go : Tree → List Token → Answer Tree) (e : ℕ) → suc e ≡ d → Leads (takes_in d (read e) names x b go) e k (go y c))
       → Chain d begun (λ k. declared_suffixes d (below d) k names) (height x) x (mark LeftParenthesis at ∷ b)
       → Chain d begun (λ k. declared_suffixes d (below d) k names) (height y) y c
   unfolding declared_suffixes declared_suffix_by ahead ahead_by

@@ -1,5 +1,5 @@
 -- The cases of declarators with a name, and without.
-use Rattle.std.proofs.Common.{◌≡◌, ℕ, suc, true, false, max, List, ◌∷◌, length, refl, if◌then◌else◌, codes, arith}
+use Rattle.std.proofs.Common.{◌≡◌, ℕ, suc, true, false, max, List, ◌∷◌, length, refl, if◌then◌else◌, codes, arith, Bool}
 use Rattle.c_lexer.specs.declared.token.Punct.TheVariants.{LeftBracket, RightBracket, LeftParenthesis, RightParenthesis, Star}
 use Rattle.c_lexer.specs.declared.token.Token.{Token}
 use Rattle.c_types.specs.declared.kind.SynKind.TheVariants as kind
@@ -10,14 +10,14 @@ use Rattle.c_grammar.specs.Derivation as rule
 use Rattle.c_grammar.specs.Derivation.{Derives, Lists, Qualifiers, start, no_name, is_lone_void}
 use Rattle.c_grammar.specs.Answers.{Answer, ahead, ahead_by, expect, expect_by}
 use Rattle.c_grammar.specs.Reading as reading
-use Rattle.c_grammar.specs.Reading.{Mode, named, unnamed, either, Reader, read, rows_in, begins_with_mark, is_named, is_named_by, is_absent_by, has_name, needs_name, after_any, takes_in, declared_suffixes, declared_in}
-use Rattle.c_grammar.proofs.Budgets.{Leads, chain_ends, leads_here, leads_then, below}
+use Rattle.c_grammar.specs.Reading.{Mode, named, unnamed, either, Reader, read, rows_in, begins_with_mark, is_named, is_named_by, is_absent_by, has_name, needs_name, after_any, takes_in, declared_suffixes, declared_in, void_in, parameters_in, begins_with_word, behind_one}
+use Rattle.c_grammar.proofs.Budgets.{Leads, chain_ends, leads_here, leads_then, below, leads_fit}
 use Rattle.c_grammar.proofs.Complete.{Complete, CompleteRow}
 use Rattle.c_grammar.proofs.CompleteTypesSteps.{row_leads, chain_begins}
 use Rattle.c_grammar.proofs.CompleteTypesEnds.{closes_bracket, closes_parenthesis, closes_const}
 use Rattle.c_grammar.proofs.CompleteTypesFronts.{behind_qualifiers, declarator_front, abstract_front, specifier_no_mark, parameters_begin}
 use Rattle.c_grammar.proofs.CompleteTypesDeclarators.{named_there, there_names, suffixes_end, no_opening_bracket, no_opening_parenthesis, pointer_finds, parentheses_lead, name_leads, bracket_leads, absent_either, absent_unnamed, array_chain, takes_chain}
-use Rattle.c_grammar.proofs.CompleteTypesVoid.{no_lone_void}
+use Rattle.c_grammar.proofs.CompleteTypesVoid.{goes_on_behind}
 
 -- ---- with a name
 
@@ -83,35 +83,44 @@ unfolding is_named_by takes_in ahead ahead_by
 c_takes_anything names a b at at2 x f d =
     let y : Tree = plain_node kind.Takes (start x) (one x) in
     record {
-      alone = takes_chain d (declared_in d (below d) named names a) names x at (mark RightParenthesis at2 ∷ b) b y 0 (f d).name (omega arith) (λ go e. leads_here (go y b) e) (f d).alone;
-      also = takes_chain d (declared_in d (below d) either names a) names x at (mark RightParenthesis at2 ∷ b) b y 0 (f d).name (omega arith) (λ go e. leads_here (go y b) e) (f d).also;
+      alone = takes_chain d (declared_in d (below d) named names a) names x at (mark RightParenthesis at2 ∷ b) b y 0 (f d).name (omega arith) (λ go e same. leads_here (go y b) e) (f d).alone;
+      also = takes_chain d (declared_in d (below d) either names a) names x at (mark RightParenthesis at2 ∷ b) b y 0 (f d).name (omega arith) (λ go e same. leads_here (go y b) e) (f d).also;
       name = (f d).name;
     }
 
 pub c_takes_void : (names : Names) (a b : List Token) (at at2 at3 : Place) (x : Tree)
     → Complete names rule.direct_declarator a (mark LeftParenthesis at ∷ word (codes "void") at2 ∷ mark RightParenthesis at3 ∷ b) x
     → Complete names rule.direct_declarator a b (plain_node kind.Takes (start x) (one x))
-unfolding is_named_by takes_in ahead ahead_by
+unfolding is_named_by takes_in void_in ahead ahead_by
 c_takes_void names a b at at2 at3 x f d =
     let y : Tree = plain_node kind.Takes (start x) (one x) in
     let rest : List Token = word (codes "void") at2 ∷ mark RightParenthesis at3 ∷ b in
     record {
-      alone = takes_chain d (declared_in d (below d) named names a) names x at rest b y 0 (f d).name (omega arith) (λ go e. leads_here (go y b) e) (f d).alone;
-      also = takes_chain d (declared_in d (below d) either names a) names x at rest b y 0 (f d).name (omega arith) (λ go e. leads_here (go y b) e) (f d).also;
+      alone = takes_chain d (declared_in d (below d) named names a) names x at rest b y 0 (f d).name (omega arith) (λ go e same. leads_here (go y b) e) (f d).alone;
+      also = takes_chain d (declared_in d (below d) either names a) names x at rest b y 0 (f d).name (omega arith) (λ go e same. leads_here (go y b) e) (f d).also;
       name = (f d).name;
     }
 
 parameters_lead : (names : Names) (b c : List Token) (at2 : Place) (x : Tree) (ps : Forest)
     → Lists (opened (after names x)) rule.parameters b (mark RightParenthesis at2 ∷ c) ps
     → CompleteRow (opened (after names x)) rule.parameters b (mark RightParenthesis at2 ∷ c) ps → is_lone_void ps ≡ false
-    → (d : ℕ) (go : Tree → List Token → Answer Tree) (e : ℕ)
+    → (d : ℕ) (go : Tree → List Token → Answer Tree) (e : ℕ) → suc e ≡ d
     → Leads (takes_in d (read e) names x b go) e (max (forest_height ps) 0) (go (plain_node kind.Takes (start x) (x then ps)) c)
-unfolding takes_in rows_in expect expect_by ahead ahead_by
-parameters_lead names b c at2 x ps l f other d go e =
-    rw (specifier_no_mark RightParenthesis false (opened (after names x)) b (parameters_begin l), no_lone_void (opened (after names x)) b _ ps f refl other) (
-    leads_then ((read e).trees_of reading.parameters (opened (after names x)) b) (λ ts behind. expect RightParenthesis behind (λ end. go (plain_node kind.Takes (start x) (x then ts)) end))
-    e (forest_height ps) 0 ps (mark RightParenthesis at2 ∷ c) (go (plain_node kind.Takes (start x) (x then ps)) c)
-    (row_leads e reading.parameters (opened (after names x)) b (f refl e (suc (length b)) (omega arith))) (leads_here _ e))
+unfolding takes_in void_in parameters_in rows_in expect expect_by ahead ahead_by
+parameters_lead names b c at2 x ps l f other d go e near = rw (specifier_no_mark RightParenthesis false (opened (after names x)) b (parameters_begin l)) (by (begins_with_word (codes "void") b) refl)
+  where
+    found_there : Leads (parameters_in d (read e) names x b go) e (max (forest_height ps) 0) (go (plain_node kind.Takes (start x) (x then ps)) c)
+    found_there = leads_then ((read e).trees_of reading.parameters (opened (after names x)) b) (λ ts behind. expect RightParenthesis behind (λ end. go (plain_node kind.Takes (start x) (x then ts)) end))
+        e (forest_height ps) 0 ps (mark RightParenthesis at2 ∷ c) (go (plain_node kind.Takes (start x) (x then ps)) c)
+        (row_leads e reading.parameters (opened (after names x)) b (f refl e (suc (length b)) (omega arith))) (leads_here _ e)
+
+    by : (void : Bool) → begins_with_word (codes "void") b ≡ void
+        → Leads (if void then void_in d (read e) names x b (behind_one b) go else parameters_in d (read e) names x b go) e (max (forest_height ps) 0) (go (plain_node kind.Takes (start x) (x then ps)) c)
+    by false v = found_there
+    by true v =
+        let on = goes_on_behind (opened (after names x)) b _ ps f refl other v in
+        let high = on.high in
+        rw (on.goes_no_end, on.goes_on) (leads_fit 4 d e _ (behind_one (behind_one b)) _ _ near (omega (arith, high)) found_there)
 
 pub c_takes : (names : Names) (a b c : List Token) (at at2 : Place) (x : Tree) (ps : Forest)
     → Complete names rule.direct_declarator a (mark LeftParenthesis at ∷ b) x

@@ -1,5 +1,5 @@
 -- What is read as a declarator, a parameter, a type name, a member or an enumerator within a budget is derived, where the next lower budget reads so.
-use Rattle.std.proofs.Common.{◌≡◌, ℕ, zero, suc, ◌≤◌, true, false, ◌&&◌, List, ◌∷◌, if◌then◌else◌, sym, ◌∙◌, subst, arith, true≢false}
+use Rattle.std.proofs.Common.{◌≡◌, ℕ, zero, suc, ◌≤◌, true, false, ◌&&◌, List, ◌∷◌, if◌then◌else◌, sym, ◌∙◌, subst, arith, true≢false, codes, refl}
 use Rattle.c_lexer.specs.declared.token.Punct.TheVariants.{LeftBracket, RightBracket, LeftParenthesis, RightParenthesis, Star, Semicolon, Equal}
 use Rattle.c_lexer.specs.declared.token.Token.{Token}
 use Rattle.c_types.specs.declared.kind.SynKind.TheVariants as kind
@@ -9,7 +9,7 @@ use Rattle.c_grammar.specs.Scopes.{Names, after}
 use Rattle.c_grammar.specs.Derivation as rule
 use Rattle.c_grammar.specs.Derivation.{Derives, Lists, start, no_name, begins_with_typedef_name}
 use Rattle.c_grammar.specs.Answers.{Answer, found, Ahead}
-use Rattle.c_grammar.specs.Reading.{after_any, Reader, Goal, Rows, Mode, has_name, needs_name, is_absent_by, is_named, begins_with_mark, behind_const, takes_in, declared_suffix_by, declared_suffixes, undeclared_in, declared_by, declared_in, parameter_in, type_name_in, member_in, value_by, enumerator_by, enumerator_in}
+use Rattle.c_grammar.specs.Reading.{after_any, Reader, Goal, Rows, Mode, has_name, needs_name, is_absent_by, is_named, begins_with_mark, begins_with_word, behind_one, behind_const, goes_on_behind_void, parameters_in, void_in, takes_in, declared_suffix_by, declared_suffixes, undeclared_in, declared_by, declared_in, parameter_in, type_name_in, member_in, value_by, enumerator_by, enumerator_in}
 use Rattle.c_grammar.specs.Meanings.{IsDeclared, with_name, without_name, absent}
 use Rattle.c_grammar.proofs.SoundSteps.{Says, says_found, says_wrong, says_deep, Is, says_then, says_if, says_fit, says_any, says_close, says_expect, IsAhead, is_mark, is_word, ahead_is, both_true, mark_split}
 use Rattle.c_grammar.proofs.SoundShapes.{direct_present, abstract_present, absent_kind, abstract_unnamed, absent_unnamed, qualifiers, begins_void, void_split, no_lone_void}
@@ -100,22 +100,32 @@ module _ (d : ℕ) (r : Reader) (sound : IsSound d r) where
   abbrev Declared : Mode → Names → List Token → Tree → List Token → Type 0
   Declared mode names = Is (suc d) (IsDeclared mode names)
 
-  takes_sound : {mode : Mode} {names : Names} {a rest : List Token} {at : Place} {x : Tree} {go : Tree → List Token → Answer Tree}
-      → ((y : Tree) (b : List Token) → Chain mode names a y b → Says (Declared mode names a) (go y b))
-      → has_name mode ≡ true
-      → suc (height x) ≤ d
-      → Derives names rule.direct_declarator a (mark LeftParenthesis at ∷ rest) x
-      → Says (Declared mode names a) (takes_in d r names x rest go)
-  unfolding takes_in
-  takes_sound {names = names} {a = a} {rest = rest} {at = at} {x = x} next h le g = says_if (begins_with_mark RightParenthesis rest)
-      (λ e. next _ _ (good (named_chain h (rule.takes_anything (upto (mark_split RightParenthesis rest e).1))) (omega (arith, le))))
-      (λ _. says_if (begins_void rest)
-      (λ e. next _ _ (good (named_chain h (rule.takes_void (upto (void_split rest e).2))) (omega (arith, le))))
-      (λ e. says_then (sound.trees Rows.parameters _ _) (λ ps behind s.
-      says_close RightParenthesis s (λ at2 end c. next _ _ (good (named_chain h (rule.takes g c (no_lone_void c e))) (omega (arith, le)))))))
-    where
-      upto : {c : List Token} → rest ≡ c → Derives names rule.direct_declarator a (mark LeftParenthesis at ∷ c) x
-      upto e = subst (λ ts. Derives names rule.direct_declarator a (mark LeftParenthesis at ∷ ts) x) e g
+  -- a list of parameters, or `void`, behind a declarator's parenthesis
+  module _ {mode : Mode} {names : Names} {a rest : List Token} {at : Place} {x : Tree} {go : Tree → List Token → Answer Tree}
+      (next : (y : Tree) (b : List Token) → Chain mode names a y b → Says (Declared mode names a) (go y b))
+      (h : has_name mode ≡ true) (le : suc (height x) ≤ d)
+      (g : Derives names rule.direct_declarator a (mark LeftParenthesis at ∷ rest) x) where
+    upto : {c : List Token} → rest ≡ c → Derives names rule.direct_declarator a (mark LeftParenthesis at ∷ c) x
+    upto e = subst (λ ts. Derives names rule.direct_declarator a (mark LeftParenthesis at ∷ ts) x) e g
+
+    parameters_sound : begins_void rest ≡ false → Says (Declared mode names a) (parameters_in d r names x rest go)
+    unfolding parameters_in
+    parameters_sound e = says_then (sound.trees Rows.parameters _ _) (λ ps behind s.
+        says_close RightParenthesis s (λ at2 end c. next _ _ (good (named_chain h (rule.takes g c (no_lone_void c e))) (omega (arith, le)))))
+
+    void_sound : begins_with_word (codes "void") rest ≡ true → Says (Declared mode names a) (void_in d r names x rest (behind_one rest) go)
+    unfolding void_in
+    void_sound v = says_if (begins_with_mark RightParenthesis (behind_one rest))
+        (λ e. next _ _ (good (named_chain h (rule.takes_void (upto (void_split rest (rw (v, e) refl)).2))) (omega (arith, le))))
+        (λ e. says_if (goes_on_behind_void (behind_one rest))
+        (λ _. says_fit _ _ _ (λ _. parameters_sound (rw (v, e) refl)))
+        (λ _. says_wrong))
+
+    takes_sound : Says (Declared mode names a) (takes_in d r names x rest go)
+    unfolding takes_in
+    takes_sound = says_if (begins_with_mark RightParenthesis rest)
+        (λ e. next _ _ (good (named_chain h (rule.takes_anything (upto (mark_split RightParenthesis rest e).1))) (omega (arith, le))))
+        (λ _. says_if (begins_with_word (codes "void") rest) void_sound (λ e. parameters_sound (rw e refl)))
 
   chain_here : {mode : Mode} {names : Names} {a ts : List Token} {x : Tree} → Chain mode names a x ts → Says (Declared mode names a) (found x ts)
   chain_here g = says_found (record { holds = chain_ends g.holds; fits = g.fits })

@@ -109,10 +109,10 @@ module _ (d : ℕ) (r : Reader) (sound : IsSound d r) where
   size_sound : {names : Names} {at : Place} {rest : List Token} {h : Ahead} → 2 ≤ d → IsAhead rest h
       → Says (Is (suc d) (Derives names rule.unary) (word (codes "sizeof") at ∷ rest)) (size_in d r names at rest h)
   unfolding size_in
-  size_sound {names} k (is_mark {p = LeftParenthesis} {rest = rest2}) = says_if (begins_specifier false names rest2)
+  size_sound {names} k (is_mark {p = LeftParenthesis} {rest = rest2}) = says_fit _ _ _ (λ _. says_if (begins_specifier false names rest2)
       (λ e. says_then (sound.tree Goal.type_name _ _) (λ t behind s.
       says_close RightParenthesis s (λ at2 end c. says_good (rule.size_of_type c) (omega arith))))
-      (λ e. says_then (sound.tree Goal.unary _ _) (λ x end s. says_good (rule.size_of_expression s.holds) (omega arith)))
+      (λ e. says_then (sound.tree Goal.unary _ _) (λ x end s. says_good (rule.size_of_expression s.holds) (omega arith))))
   size_sound k _ = says_then (sound.tree Goal.unary _ _) (λ x end s. says_good (rule.size_of_expression s.holds) (omega arith))
 
   other_operator_sound : (names : Names) (op : Punct) (at : Place) (rest : List Token)

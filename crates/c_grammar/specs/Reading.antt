@@ -161,6 +161,15 @@ abbrev pub behind_one : List Token → List Token
 behind_one [] = []
 behind_one (t ∷ rest) = rest
 
+-- a parameter can go on with this token behind the word `void`
+unfoldable pub goes_on_behind_void_by : Ahead → Bool
+goes_on_behind_void_by (word_ahead text at rest) = begins_specifier_by true [] (word_ahead text at rest) || is_identifier text
+goes_on_behind_void_by (mark_ahead p at rest) = same_mark Star p || (same_mark LeftParenthesis p || (same_mark LeftBracket p || same_mark Comma p))
+goes_on_behind_void_by other = false
+
+abbrev pub goes_on_behind_void : List Token → Bool
+goes_on_behind_void ts = goes_on_behind_void_by (ahead ts)
+
 -- a node without a token of its own reads its first part within the next lower budget; at 0 its own reading serves, which
 -- goes too deep at the first token
 unfoldable pub lower : {T : Type 0} → ℕ → Answer T → Answer T → Answer T
@@ -215,11 +224,12 @@ module _ (d : ℕ) (r : Reader) where
   unfoldable pub postfix_in : Names → List Token → Answer Tree
   postfix_in names ts = and_then (primary_by names ts (ahead ts)) (suffixes d names)
 
+  -- a parenthesis behind `sizeof` begins a type name or an expression of height 2, so that either makes a height of 3
   unfoldable pub size_in : Names → Place → List Token → Ahead → Answer Tree
-  size_in names at rest (mark_ahead LeftParenthesis at2 rest2) = if begins_specifier false names rest2 then
+  size_in names at rest (mark_ahead LeftParenthesis at2 rest2) = fit 3 d rest2 (if begins_specifier false names rest2 then
       and_then (r.tree_of type_name names rest2) (λ t behind.
       expect RightParenthesis behind (λ end. found (plain_node kind.SizeType at.start (one t)) end))
-      else and_then (r.tree_of unary names rest) (λ x end. found (plain_node kind.SizeExpr at.start (one x)) end)
+      else and_then (r.tree_of unary names rest) (λ x end. found (plain_node kind.SizeExpr at.start (one x)) end))
   size_in names at rest other = and_then (r.tree_of unary names rest) (λ x end. found (plain_node kind.SizeExpr at.start (one x)) end)
 
   unfoldable pub unary_by : Names → List Token → Ahead → Answer Tree
@@ -336,13 +346,23 @@ module _ (d : ℕ) (r : Reader) where
   unfoldable pub specs_first : Names → List Token → Answer Tree
   specs_first names ts = lower d (specifiers_in names ts) (r.tree_of specifiers names ts)
 
+  unfoldable pub parameters_in : Names → Tree → List Token → (Tree → List Token → Answer Tree) → Answer Tree
+  parameters_in names x rest go = and_then (r.trees_of parameters (opened (after names x)) rest) (λ ts behind.
+      expect RightParenthesis behind (λ end. go (plain_node kind.Takes (start x) (x then ts)) end))
+
+  -- the word `void` before the tokens ts stands alone, or goes on with ts to a parameter of height 3
+  unfoldable pub void_in : Names → Tree → List Token → List Token → (Tree → List Token → Answer Tree) → Answer Tree
+  void_in names x rest ts go =
+      if begins_with_mark RightParenthesis ts then go (plain_node kind.Takes (start x) (one x)) (behind_one ts)
+      else (if goes_on_behind_void ts then fit 4 d (behind_one ts) (parameters_in names x rest go)
+      else wrong ts)
+
   -- the parameters behind `(`
   unfoldable pub takes_in : Names → Tree → List Token → (Tree → List Token → Answer Tree) → Answer Tree
   takes_in names x rest go =
       if begins_with_mark RightParenthesis rest then go (plain_node kind.Takes (start x) (one x)) (behind_one rest)
-      else (if begins_with_word (codes "void") rest && begins_with_mark RightParenthesis (behind_one rest) then go (plain_node kind.Takes (start x) (one x)) (behind_one (behind_one rest))
-      else and_then (r.trees_of parameters (opened (after names x)) rest) (λ ts behind.
-      expect RightParenthesis behind (λ end. go (plain_node kind.Takes (start x) (x then ts)) end)))
+      else (if begins_with_word (codes "void") rest then void_in names x rest (behind_one rest) go
+      else parameters_in names x rest go)
 
   unfoldable pub declared_suffix_by : Names → Tree → List Token → (Tree → List Token → Answer Tree) → Ahead → Answer Tree
   declared_suffix_by names x ts go (mark_ahead LeftBracket at rest) = fit (suc (height x)) d rest (
