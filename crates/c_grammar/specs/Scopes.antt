@@ -106,22 +106,28 @@ abbrev pub entry : List ℕ → Bool → List Entry
 entry name is_typedef = record { name = name; is_typedef = is_typedef } ∷ []
 
 -- what a node declares in the scope that it stands in, where this is what its kids declare there. Blocks, `for`
--- statements and parameters with their bodies are scopes of their own; an initialized declarator declares a typedef name
--- where the specs before it say so; members and tags declare nothing here
-abbrev pub entries_by : SynKind → Bool → List ℕ → Forest → List Entry → List Entry
-entries_by kind.Block is_typedef text kids inner = []
-entries_by kind.For is_typedef text kids inner = []
-entries_by kind.Param is_typedef text kids inner = []
-entries_by kind.Enumer is_typedef text kids inner = inner ++ entry text false
-entries_by kind.InitDecl is_typedef text kids inner = inner ++ entry (name_of kids) is_typedef
-entries_by kind.Function is_typedef text kids inner = inner ++ entry (name_of (behind_first kids)) false
-entries_by other is_typedef text kids inner = inner
+-- statements and parameters with their bodies are scopes of their own; members and tags declare nothing here
+abbrev pub entries_by : SynKind → List ℕ → Forest → List Entry → List Entry
+entries_by kind.Block text kids inner = []
+entries_by kind.For text kids inner = []
+entries_by kind.Param text kids inner = []
+entries_by kind.Enumer text kids inner = inner ++ entry text false
+entries_by kind.Function text kids inner = inner ++ entry (name_of (behind_first kids)) false
+entries_by other text kids inner = inner
 
--- what trees declare, behind specs that say `typedef` or do not
+-- what an initialized declarator declares right behind the first of its kids: a typedef name where the specs before it say so
+abbrev pub own_entries : SynKind → Bool → Forest → List Entry
+own_entries kind.InitDecl is_typedef kids = entry (name_of kids) is_typedef
+own_entries other is_typedef kids = []
+
+-- what trees declare, behind specs that say `typedef` or do not; and right behind the first of them this more
+abbrev pub entries_with : List Entry → Bool → Forest → List Entry
+entries_with more is_typedef none = more
+entries_with more is_typedef (tree label kids rest) =
+    entries_by label.kind label.text kids (entries_with (own_entries label.kind is_typedef kids) (says_typedef kids) kids) ++ (more ++ entries_with [] is_typedef rest)
+
 abbrev pub entries_behind : Bool → Forest → List Entry
-entries_behind is_typedef none = []
-entries_behind is_typedef (tree label kids rest) =
-    entries_by label.kind is_typedef label.text kids (entries_behind (says_typedef kids) kids) ++ entries_behind is_typedef rest
+entries_behind is_typedef ts = entries_with [] is_typedef ts
 
 abbrev pub entries : Tree → List Entry
 entries t = entries_behind false (one t)
