@@ -5,7 +5,7 @@ use Rattle.std.specs.Prelude.{max, nat_lt, if◌then◌else◌}
 use Rattle.c_lexer.specs.declared.token.Token.{Token}
 use Rattle.c_types.specs.Trees.{Tree, ◌then◌}
 use Rattle.c_grammar.specs.Answers.{Answer, found, deep, and_then, fit}
-use Rattle.c_grammar.specs.Reading.{Reader, no_reader, read}
+use Rattle.c_grammar.specs.Reading.{Reader, no_reader, read, below}
 
 pub record IsDeep {T : Type 0} (answer : Answer T) : Type 0 where
   pub behind : List Token
@@ -100,11 +100,6 @@ module _ {T U : Type 0} (x : Answer T) (go : T → List Token → Answer U) wher
           let rest = r.high (omega (arith, lt, le)) in
           record { behind = rest.behind; too_deep = then_found t c (f.low le) ∙ rest.too_deep }
       late lt (inr over) = then_deep (f.high over)
-
--- what reads within the next lower budget
-abbrev pub below : ℕ → Reader
-below zero = no_reader
-below (suc e) = read e
 
 -- a node with a token of its own in front
 module _ {T : Type 0} (needed h : ℕ) (rest : List Token) (parts : Reader → Answer T) (next : Answer T) (some : 1 ≤ needed) (least : needed ≤ suc h) where

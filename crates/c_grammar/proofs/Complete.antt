@@ -9,8 +9,8 @@ use Rattle.c_grammar.specs.Vocabulary.{level_of, is_assignment}
 use Rattle.c_grammar.specs.Scopes.{Names, opened, after, after_parameter, add, entries_behind}
 use Rattle.c_grammar.specs.Derivation.{Part, Row, ends_open}
 use Rattle.c_grammar.specs.Answers.{Answer, Ahead, mark_ahead, string_ahead, ahead}
-use Rattle.c_grammar.specs.Reading.{named, unnamed, either, begins_with_mark, begins_with_word, begins_specifier, is_named, is_absent_by, primary_by, postfix_in, suffixes, unary_in, cast_in, binary_in, operands, conditional_in, assignment_in, expression_in, commas, specifier_in, specifier_list_in, specifiers_in, declared_in, declared_suffixes, parameter_in, type_name_in, member_in, enumerator_in, initializer_in, init_declarator_in, declaration_in, external_in, body_by, statement_in, optional_expression_in, listed, listed_in_braces, members_in, items_in, externals_in, arguments_in, length_in}
-use Rattle.c_grammar.proofs.Budgets.{Finds, Chain, below}
+use Rattle.c_grammar.specs.Reading.{named, unnamed, either, begins_with_mark, begins_with_word, begins_specifier, is_named, is_absent_by, primary_by, postfix_in, suffixes, unary_in, cast_in, binary_in, operands, conditional_in, assignment_in, expression_in, commas, specifier_in, specifier_list_in, specifiers_in, declared_in, declared_suffixes, parameter_in, type_name_in, member_in, enumerator_in, initializer_in, init_declarator_in, declaration_in, external_in, body_by, statement_in, optional_expression_in, listed, listed_in_braces, members_in, items_in, externals_in, arguments_in, length_in, below}
+use Rattle.c_grammar.proofs.Budgets.{Finds, Chain}
 
 -- ---- what may stand behind a part
 

@@ -14,9 +14,9 @@ use Rattle.c_grammar.specs.Vocabulary.{is_among, keywords, is_identifier, is_typ
 use Rattle.c_grammar.specs.Scopes.{Names, is_typedef_name, after}
 use Rattle.c_grammar.specs.Derivation.{Part, Row, Derives, Lists, Literals, start}
 use Rattle.c_grammar.specs.Answers.{Answer, found, wrong, deep, and_then, fit, Ahead, mark_ahead, ahead, ahead_by, expect, expect_by, expect_identifier, expect_identifier_by}
-use Rattle.c_grammar.specs.Reading.{Reader, Goal, Rows, begins_with_mark, begins_with_mark_by, begins_specifier, begins_specifier_by, is_variable, primary_by, suffix_by, suffixes, postfix_in, unary_by, unary_in, size_in, cast_by, cast_in, comma_by, commas, expression_in, goal_in, rows_in, level, read, joined_behind, joined_by, string_in}
+use Rattle.c_grammar.specs.Reading.{Reader, Goal, Rows, begins_with_mark, begins_with_mark_by, begins_specifier, begins_specifier_by, is_variable, primary_by, suffix_by, suffixes, postfix_in, unary_by, unary_in, size_in, cast_by, cast_in, comma_by, commas, expression_in, goal_in, rows_in, level, read, joined_behind, joined_by, string_in, below}
 use Rattle.c_grammar.specs.Derivation
-use Rattle.c_grammar.proofs.Budgets.{then_found, then_deep, Leads, Finds, leads_from, leads_height, leads_here, leads_then, node_leads, below, Chain, chain_ends, chain_goes_on}
+use Rattle.c_grammar.proofs.Budgets.{then_found, then_deep, Leads, Finds, leads_from, leads_height, leads_here, leads_then, node_leads, Chain, chain_ends, chain_goes_on}
 use Rattle.c_grammar.proofs.Complete.{Complete, CompleteRow, Is, no_string_by, no_string, ends_assignment}
 use Rattle.c_grammar.proofs.FirstTokens.{has_front, front, kind_front, word_front, keyword_front, of_expression, of_specs, begins_statement, among}
 

@@ -15,9 +15,9 @@ use Rattle.c_grammar.specs.Vocabulary.{is_among, is_identifier, is_type_word, is
 use Rattle.c_grammar.specs.Scopes.{Names, is_typedef_name, after}
 use Rattle.c_grammar.specs.Derivation.{Part, Row, Derives, Lists, Literals, start}
 use Rattle.c_grammar.specs.Answers.{Answer, found, and_then, fit, Ahead, nothing_ahead, mark_ahead, word_ahead, integer_ahead, character_ahead, string_ahead, ahead, ahead_by, expect, expect_by, deep}
-use Rattle.c_grammar.specs.Reading.{Reader, Goal, begins_with_mark_by, begins_specifier, begins_specifier_by, suffix_by, suffixes, postfix_in, unary_by, unary_in, size_in, cast_by, cast_in, operand_by, operands, binary_in, choice_by, conditional_in, assigned_by, assignment_in, comma_by, commas, expression_in, goal_in, level, read, is_unary_by, begins_with_mark, primary_by, behind_one}
+use Rattle.c_grammar.specs.Reading.{Reader, Goal, begins_with_mark_by, begins_specifier, begins_specifier_by, suffix_by, suffixes, postfix_in, unary_by, unary_in, size_in, cast_by, cast_in, operand_by, operands, binary_in, choice_by, conditional_in, assigned_by, assignment_in, comma_by, commas, expression_in, goal_in, level, read, is_unary_by, begins_with_mark, primary_by, behind_one, below}
 use Rattle.c_grammar.specs.Derivation
-use Rattle.c_grammar.proofs.Budgets.{order, within, beyond, then_found, then_deep, Leads, Finds, leads_from, leads_height, leads_here, leads_then, below, chain_ends, leads_fit_within}
+use Rattle.c_grammar.proofs.Budgets.{order, within, beyond, then_found, then_deep, Leads, Finds, leads_from, leads_height, leads_here, leads_then, chain_ends, leads_fit_within}
 use Rattle.c_grammar.proofs.Complete.{Complete, Is, begins_type_by, no_suffix_by, no_operator_by, no_assignment_by, no_string, ends_postfix, ends_binary, ends_conditional}
 use Rattle.c_grammar.proofs.CompleteExpressions.{tags, statement_words, nested, node_of, chain_link, dead, expression_finds}
 use Rattle.c_grammar.proofs.SoundSteps.{mark_split}

@@ -10,9 +10,9 @@ use Rattle.c_grammar.specs.Scopes.{Names, opened, after}
 use Rattle.c_grammar.specs.Derivation as grammar
 use Rattle.c_grammar.specs.Derivation.{Part, Row, Derives, Lists, start, ends_open}
 use Rattle.c_grammar.specs.Answers.{found, and_then, expect, expect_by, expect_word, expect_word_by, ahead, ahead_by}
-use Rattle.c_grammar.specs.Reading.{Reader, read, goal_in, rows_in, statement_in, statement_by, body_by, expression_statement_in, keyword_by, while_in, do_in, if_in, for_in, for_behind, return_in, in_parentheses_then, begins_with_word, begins_with_mark}
+use Rattle.c_grammar.specs.Reading.{Reader, read, goal_in, rows_in, statement_in, statement_by, body_by, expression_statement_in, keyword_by, while_in, do_in, if_in, for_in, for_behind, return_in, in_parentheses_then, begins_with_word, begins_with_mark, below}
 use Rattle.c_grammar.specs.Reading as reading
-use Rattle.c_grammar.proofs.Budgets.{Finds, below, leads_then, leads_here, leads_height, leads_from}
+use Rattle.c_grammar.proofs.Budgets.{Finds, leads_then, leads_here, leads_height, leads_from}
 use Rattle.c_grammar.proofs.Complete.{Complete, CompleteRow}
 use Rattle.c_grammar.proofs.CompleteStatementsBase.{tree_finds, trees_find, node_then, expression_finds, token_node, leads_true, leads_false, is_false}
 use Rattle.c_grammar.proofs.CompleteStatementsFirst.{reads_expression, no_semicolon}

@@ -11,8 +11,8 @@ use Rattle.c_grammar.specs.Vocabulary.{Place}
 use Rattle.c_grammar.specs.Scopes.{Names}
 use Rattle.c_grammar.specs.Derivation.{Part}
 use Rattle.c_grammar.specs.Answers.{Answer, found, and_then, fit, Ahead, mark_ahead, ahead, ahead_by}
-use Rattle.c_grammar.specs.Reading.{Goal, Rows, Reader, level, read, goal_in, rows_in, lower, begins_with_mark, begins_with_mark_by, expression_in, commas, comma_by}
-use Rattle.c_grammar.proofs.Budgets.{Leads, Finds, below, leads_then, leads_height, leads_from, leads_up, then_deep, chain_ends, node_leads}
+use Rattle.c_grammar.specs.Reading.{Goal, Rows, Reader, level, read, goal_in, rows_in, lower, begins_with_mark, begins_with_mark_by, expression_in, commas, comma_by, below}
+use Rattle.c_grammar.proofs.Budgets.{Leads, Finds, leads_then, leads_height, leads_from, leads_up, then_deep, chain_ends, node_leads}
 use Rattle.c_grammar.proofs.Complete.{Complete, Is, no_string_by, no_suffix_by, no_operator_by, no_assignment_by, ends_assignment, ends_expression}
 
 -- ---- what reads at a level

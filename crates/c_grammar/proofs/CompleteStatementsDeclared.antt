@@ -10,9 +10,9 @@ use Rattle.c_grammar.specs.Scopes.{Names, after, after_declarator, says_typedef}
 use Rattle.c_grammar.specs.Derivation as grammar
 use Rattle.c_grammar.specs.Derivation.{Part, Row, Derives, Lists, start, first_start}
 use Rattle.c_grammar.specs.Answers.{found, and_then, expect, expect_by, Ahead, mark_ahead, ahead, ahead_by}
-use Rattle.c_grammar.specs.Reading.{Reader, read, read_unit, goal_in, rows_in, named, begins_with_mark, begins_with_mark_by, initializer_in, initializer_by, init_declarator_in, initialized_by, declaration_in, declaration_behind, specs_first, function_by, external_in}
+use Rattle.c_grammar.specs.Reading.{Reader, read, read_unit, goal_in, rows_in, named, begins_with_mark, begins_with_mark_by, initializer_in, initializer_by, init_declarator_in, initialized_by, declaration_in, declaration_behind, specs_first, function_by, external_in, below}
 use Rattle.c_grammar.specs.Reading as reading
-use Rattle.c_grammar.proofs.Budgets.{below, leads_then, leads_here, leads_height, leads_from}
+use Rattle.c_grammar.proofs.Budgets.{leads_then, leads_here, leads_height, leads_from}
 use Rattle.c_grammar.proofs.Complete.{Complete, CompleteRow}
 use Rattle.c_grammar.proofs.CompleteStatementsBase.{tree_finds, trees_find, node_then, token_node, leads_false, closes_by, closes_assignment}
 use Rattle.c_grammar.proofs.CompleteStatementsFirst.{reads_assignment, declarator_begins, DeclaratorBegins}

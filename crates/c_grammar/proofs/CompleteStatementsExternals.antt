@@ -9,9 +9,9 @@ use Rattle.c_grammar.specs.Vocabulary.{Place, mark}
 use Rattle.c_grammar.specs.Scopes.{Names, opened, after, after_declarator, add, entries_behind, says_typedef, in_body}
 use Rattle.c_grammar.specs.Derivation.{Part, Row, Derives, start, first_start}
 use Rattle.c_grammar.specs.Answers.{Answer, found, and_then, expect, expect_by, Ahead, mark_ahead, ahead, ahead_by}
-use Rattle.c_grammar.specs.Reading.{Reader, read, read_unit, goal_in, rows_in, named, begins_with_mark, begins_with_mark_by, begins_specifier_by, behind_one, init_behind_by, init_behind_in, declarators_behind, declaration_from, specs_first, function_by, external_in}
+use Rattle.c_grammar.specs.Reading.{Reader, read, read_unit, goal_in, rows_in, named, begins_with_mark, begins_with_mark_by, begins_specifier_by, behind_one, init_behind_by, init_behind_in, declarators_behind, declaration_from, specs_first, function_by, external_in, below}
 use Rattle.c_grammar.specs.Reading as reading
-use Rattle.c_grammar.proofs.Budgets.{Finds, IsDeep, below, leads_then, leads_here, leads_height, leads_from, leads_up, then_deep, then_found}
+use Rattle.c_grammar.proofs.Budgets.{Finds, IsDeep, leads_then, leads_here, leads_height, leads_from, leads_up, then_deep, then_found}
 use Rattle.c_grammar.proofs.Complete.{Complete, CompleteRow, Is, closes, ends_declarator}
 use Rattle.c_grammar.proofs.CompleteStatementsBase.{tree_finds, trees_find, node_then, leads_false}
 use Rattle.c_grammar.proofs.CompleteStatementsFirst.{declarator_begins, DeclaratorBegins}

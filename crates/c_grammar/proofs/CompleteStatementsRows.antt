@@ -9,8 +9,8 @@ use Rattle.c_grammar.specs.Scopes.{Names, after, add, entries_behind}
 use Rattle.c_grammar.specs.Derivation as grammar
 use Rattle.c_grammar.specs.Derivation.{Part, Row, Derives, Lists, ends_open}
 use Rattle.c_grammar.specs.Answers.{Answer, found, and_then, Ahead, mark_ahead, ahead, ahead_by}
-use Rattle.c_grammar.specs.Reading.{begins_with_mark, begins_with_mark_by, begins_with_word, begins_with_word_by, begins_specifier, listed, listed_in_braces, items_in, externals_in, externals_by, arguments_in, assignment_in, initializer_in, init_declarator_in}
-use Rattle.c_grammar.proofs.Budgets.{Finds, below, leads_then, leads_here, leads_from, leads_height}
+use Rattle.c_grammar.specs.Reading.{begins_with_mark, begins_with_mark_by, begins_with_word, begins_with_word_by, begins_specifier, listed, listed_in_braces, items_in, externals_in, externals_by, arguments_in, assignment_in, initializer_in, init_declarator_in, below}
+use Rattle.c_grammar.proofs.Budgets.{Finds, leads_then, leads_here, leads_from, leads_height}
 use Rattle.c_grammar.proofs.Complete.{Complete, CompleteRow, Counted, Is}
 use Rattle.c_grammar.proofs.CompleteStatementsBase.{leads_true, leads_false, closes_assignment, ends_row}
 use Rattle.c_grammar.proofs.CompleteStatementsFirst.{no_brace, no_parenthesis, no_else_word, specs_begin, no_specs_begin}

@@ -10,8 +10,8 @@ use Rattle.c_grammar.specs.Scopes.{Names, after}
 use Rattle.c_grammar.specs.Derivation.{start, no_name}
 use Rattle.c_grammar.specs.Answers.{Answer, found, wrong, deep, and_then, fit, Ahead, mark_ahead, ahead, ahead_by, expect, expect_by}
 use Rattle.c_grammar.specs.Reading as reading
-use Rattle.c_grammar.specs.Reading.{Mode, named, unnamed, either, Reader, read, rows_in, goal_in, begins_with_mark, begins_with_mark_by, begins_with_word, behind_one, behind_const, is_named, is_named_by, is_absent_by, has_name, needs_name, if_any, after_any, length_in, takes_in, declared_suffix_by, declared_suffixes, undeclared_in, declared_by, declared_in}
-use Rattle.c_grammar.proofs.Budgets.{Leads, Finds, Chain, chain_goes_on, leads_from, leads_height, leads_here, leads_then, node_leads, below}
+use Rattle.c_grammar.specs.Reading.{Mode, named, unnamed, either, Reader, read, rows_in, goal_in, begins_with_mark, begins_with_mark_by, begins_with_word, behind_one, behind_const, is_named, is_named_by, is_absent_by, has_name, needs_name, if_any, after_any, length_in, takes_in, declared_suffix_by, declared_suffixes, undeclared_in, declared_by, declared_in, below}
+use Rattle.c_grammar.proofs.Budgets.{Leads, Finds, Chain, chain_goes_on, leads_from, leads_height, leads_here, leads_then, node_leads}
 use Rattle.c_grammar.proofs.Complete.{Is, closes, ends_declarator}
 use Rattle.c_grammar.proofs.CompleteTypesSteps.{goal_leads, row_leads, leaf_leads, chain_height}
 use Rattle.c_grammar.proofs.CompleteTypesEnds.{closing, closes_bracket, closes_parenthesis}

@@ -10,8 +10,8 @@ use Rattle.c_grammar.specs.Derivation as rule
 use Rattle.c_grammar.specs.Derivation.{Derives, Lists, Qualifiers, start, no_name, is_lone_void}
 use Rattle.c_grammar.specs.Answers.{Answer, ahead, ahead_by, expect, expect_by}
 use Rattle.c_grammar.specs.Reading as reading
-use Rattle.c_grammar.specs.Reading.{Mode, named, unnamed, either, Reader, read, rows_in, begins_with_mark, is_named, is_named_by, is_absent_by, has_name, needs_name, after_any, takes_in, declared_suffixes, declared_in, void_in, parameters_in, begins_with_word, behind_one}
-use Rattle.c_grammar.proofs.Budgets.{Leads, chain_ends, leads_here, leads_then, below, leads_fit}
+use Rattle.c_grammar.specs.Reading.{Mode, named, unnamed, either, Reader, read, rows_in, begins_with_mark, is_named, is_named_by, is_absent_by, has_name, needs_name, after_any, takes_in, declared_suffixes, declared_in, void_in, parameters_in, begins_with_word, behind_one, below}
+use Rattle.c_grammar.proofs.Budgets.{Leads, chain_ends, leads_here, leads_then, leads_fit}
 use Rattle.c_grammar.proofs.Complete.{Complete, CompleteRow}
 use Rattle.c_grammar.proofs.CompleteTypesSteps.{row_leads, chain_begins}
 use Rattle.c_grammar.proofs.CompleteTypesEnds.{closes_bracket, closes_parenthesis, closes_const}

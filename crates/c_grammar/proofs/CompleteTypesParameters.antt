@@ -9,8 +9,8 @@ use Rattle.c_grammar.specs.Derivation as rule
 use Rattle.c_grammar.specs.Derivation.{Derives, start, no_name}
 use Rattle.c_grammar.specs.Answers.{found, and_then}
 use Rattle.c_grammar.specs.Reading as reading
-use Rattle.c_grammar.specs.Reading.{Mode, unnamed, either, Reader, read, goal_in, specs_first, declared_in, parameter_in, type_name_in}
-use Rattle.c_grammar.proofs.Budgets.{Finds, leads_height, leads_here, leads_then, below}
+use Rattle.c_grammar.specs.Reading.{Mode, unnamed, either, Reader, read, goal_in, specs_first, declared_in, parameter_in, type_name_in, below}
+use Rattle.c_grammar.proofs.Budgets.{Finds, leads_height, leads_here, leads_then}
 use Rattle.c_grammar.proofs.Complete.{Complete, Is, ends_specs}
 use Rattle.c_grammar.proofs.CompleteTypesSteps.{goal_leads}
 use Rattle.c_grammar.proofs.CompleteTypesEnds.{closes_declarator, closes_specs}

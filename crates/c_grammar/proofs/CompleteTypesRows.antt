@@ -12,8 +12,8 @@ use Rattle.c_grammar.specs.Derivation as rule
 use Rattle.c_grammar.specs.Derivation.{Part, Row, Derives, Lists, start, first_start, begins_with_typedef_name}
 use Rattle.c_grammar.specs.Answers.{Answer, found, and_then, Ahead, mark_ahead, ahead, ahead_by, expect, expect_by}
 use Rattle.c_grammar.specs.Reading as reading
-use Rattle.c_grammar.specs.Reading.{Rows, Reader, read, rows_in, goal_in, begins_specifier, begins_with_mark, begins_with_mark_by, specifier_in, specifier_list_in, specifiers_in, specs_first, member_in, members_in, enumerator_in, enumerator_by, value_by, conditional_in, length_in, parameter_in, declared_in, listed}
-use Rattle.c_grammar.proofs.Budgets.{Leads, leads_height, leads_here, leads_then, node_leads, below}
+use Rattle.c_grammar.specs.Reading.{Rows, Reader, read, rows_in, goal_in, begins_specifier, begins_with_mark, begins_with_mark_by, specifier_in, specifier_list_in, specifiers_in, specs_first, member_in, members_in, enumerator_in, enumerator_by, value_by, conditional_in, length_in, parameter_in, declared_in, listed, below}
+use Rattle.c_grammar.proofs.Budgets.{Leads, leads_height, leads_here, leads_then, node_leads}
 use Rattle.c_grammar.proofs.FirstTokens.{front, of_expression, kind_front, begins_statement, has_front}
 use Rattle.c_grammar.proofs.Complete.{Complete, CompleteRow, Is, ends_specs}
 use Rattle.c_grammar.proofs.CompleteTypesSteps.{read_goal, read_row, goal_leads, row_leads, fit_leads, leaf_leads, lower_leads, some_height, listed_last, listed_more, braces_last, braces_comma, braces_more}

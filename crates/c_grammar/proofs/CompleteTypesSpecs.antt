@@ -11,8 +11,8 @@ use Rattle.c_grammar.specs.Derivation as rule
 use Rattle.c_grammar.specs.Derivation.{Part, Row, Derives, Lists, start, first_start, begins_with_typedef_name}
 use Rattle.c_grammar.specs.Answers.{Answer, found, and_then, fit, Ahead, mark_ahead, ahead, ahead_by, expect, expect_by}
 use Rattle.c_grammar.specs.Reading as reading
-use Rattle.c_grammar.specs.Reading.{Rows, Reader, read, rows_in, goal_in, begins_specifier, begins_with_mark, begins_with_mark_by, body_in, tagged_by, tag_by, specifier_by, specifier_in, specifier_list_in, specifiers_in, specs_first, member_in, members_in, enumerator_in, enumerator_by, value_by}
-use Rattle.c_grammar.proofs.Budgets.{Leads, Finds, leads_height, leads_here, leads_then, node_leads, below}
+use Rattle.c_grammar.specs.Reading.{Rows, Reader, read, rows_in, goal_in, begins_specifier, begins_with_mark, begins_with_mark_by, body_in, tagged_by, tag_by, specifier_by, specifier_in, specifier_list_in, specifiers_in, specs_first, member_in, members_in, enumerator_in, enumerator_by, value_by, below}
+use Rattle.c_grammar.proofs.Budgets.{Leads, Finds, leads_height, leads_here, leads_then, node_leads}
 use Rattle.c_grammar.proofs.Complete.{Complete, CompleteRow}
 use Rattle.c_grammar.proofs.CompleteTypesSteps.{row_leads, fit_leads, leaf_leads, some_height}
 use Rattle.c_grammar.proofs.CompleteTypesFronts.{no_spec_word, no_keyword}

@@ -8,8 +8,8 @@ use Rattle.c_types.specs.Trees.{Tree, Forest, ◌then◌, one, height, forest_he
 use Rattle.c_grammar.specs.Vocabulary.{Place, mark}
 use Rattle.c_grammar.specs.Scopes.{Names, after}
 use Rattle.c_grammar.specs.Answers.{Answer, found, and_then, fit, ahead, ahead_by}
-use Rattle.c_grammar.specs.Reading.{Goal, Rows, Reader, no_reader, level, read, goal_in, rows_in, lower, begins_with_mark, listed, listed_in_braces}
-use Rattle.c_grammar.proofs.Budgets.{IsDeep, Leads, Finds, leads_from, leads_height, leads_here, leads_up, leads_then, then_deep, within, beyond, below, Chain}
+use Rattle.c_grammar.specs.Reading.{Goal, Rows, Reader, no_reader, level, read, goal_in, rows_in, lower, begins_with_mark, listed, listed_in_braces, below}
+use Rattle.c_grammar.proofs.Budgets.{IsDeep, Leads, Finds, leads_from, leads_height, leads_here, leads_up, leads_then, then_deep, within, beyond, Chain}
 use Rattle.c_grammar.proofs.Complete.{Counted}
 
 -- ---- what reads within the next lower budget

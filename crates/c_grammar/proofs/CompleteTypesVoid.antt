@@ -12,8 +12,8 @@ use Rattle.c_grammar.specs.Scopes.{Names, after_parameter}
 use Rattle.c_grammar.specs.Derivation as rule
 use Rattle.c_grammar.specs.Derivation.{is_lone_void, no_name}
 use Rattle.c_grammar.specs.Answers.{Answer, found, deep, and_then, fit, ahead, ahead_by, Ahead, mark_ahead, word_ahead}
-use Rattle.c_grammar.specs.Reading.{level, read, goal_in, rows_in, lower, if_any, begins_specifier_by, begins_with_mark, begins_with_word, behind_one, needs_name, specifier_by, specifier_in, specifier_list_in, specifiers_in, specs_first, parameter_in, declared_in, declared_by, undeclared_in, declared_suffixes, declared_suffix_by, listed, goes_on_behind_void, goes_on_behind_void_by, has_name, begins_with_mark_by}
-use Rattle.c_grammar.proofs.Budgets.{Finds, below, order}
+use Rattle.c_grammar.specs.Reading.{level, read, goal_in, rows_in, lower, if_any, begins_specifier_by, begins_with_mark, begins_with_word, behind_one, needs_name, specifier_by, specifier_in, specifier_list_in, specifiers_in, specs_first, parameter_in, declared_in, declared_by, undeclared_in, declared_suffixes, declared_suffix_by, listed, goes_on_behind_void, goes_on_behind_void_by, has_name, begins_with_mark_by, below}
+use Rattle.c_grammar.proofs.Budgets.{Finds, order}
 use Rattle.c_grammar.proofs.Complete.{CompleteRow}
 
 first_of_neither : (p q : Bool) → p || q ≡ false → p ≡ false

@@ -653,6 +653,11 @@ unfoldable pub read : ℕ → Reader
 read zero = level zero no_reader
 read (suc d) = level (suc d) (read d)
 
+-- what reads within the next lower budget
+abbrev pub below : ℕ → Reader
+below zero = no_reader
+below (suc d) = read d
+
 -- the tree of a unit, within a budget
 unfoldable pub read_unit : ℕ → List Token → Answer Tree
 read_unit zero ts = and_then ((read zero).trees_of externals (opened []) ts) (λ more end. deep end)

@@ -31,9 +31,9 @@ is_typedef_name (scope ∷ outer) name = if declares name scope then declares_ty
 abbrev pub opened : Names → Names
 opened names = [] ∷ names
 
--- more names in the innermost scope
+-- more names in the innermost scope, where there is one
 abbrev pub add : Names → List Entry → Names
-add [] entries = entries ∷ []
+add [] entries = []
 add (scope ∷ outer) entries = (scope ++ entries) ∷ outer
 
 -- ---- what trees declare
@@ -120,11 +120,16 @@ abbrev pub own_entries : SynKind → Bool → Forest → List Entry
 own_entries kind.InitDecl is_typedef kids = entry (name_of kids) is_typedef
 own_entries other is_typedef kids = []
 
+-- the specs of a declaration say `typedef`
+abbrev pub declares_types : SynKind → Forest → Bool
+declares_types kind.Declaration kids = says_typedef kids
+declares_types other kids = false
+
 -- what trees declare, behind specs that say `typedef` or do not; and right behind the first of them this more
 abbrev pub entries_with : List Entry → Bool → Forest → List Entry
 entries_with more is_typedef none = more
 entries_with more is_typedef (tree label kids rest) =
-    entries_by label.kind label.text kids (entries_with (own_entries label.kind is_typedef kids) (says_typedef kids) kids) ++ (more ++ entries_with [] is_typedef rest)
+    entries_by label.kind label.text kids (entries_with (own_entries label.kind is_typedef kids) (declares_types label.kind kids) kids) ++ (more ++ entries_with [] is_typedef rest)
 
 abbrev pub entries_behind : Bool → Forest → List Entry
 entries_behind is_typedef ts = entries_with [] is_typedef ts
