@@ -35,3 +35,15 @@ pub mod CompleteTypesParameters
 pub mod Completeness
 pub mod OneTree
 pub mod NoTrees
+pub mod KeptSteps
+pub mod KeptFirst
+pub mod KeptExpressions
+pub mod KeptCounters
+pub mod KeptTypes
+pub mod KeptDeclarators
+pub mod KeptDeclarations
+pub mod KeptStatements
+pub mod KeptListed
+pub mod KeptRows
+pub mod Kept
+pub mod CutLaw

@@ -1,5 +1,5 @@
 // What holds of all derivations.
-ghost use Rattle.std.specs.Prelude.{◌≡◌, ℕ, ◌≤◌, ◌<◌, List, []};
+ghost use Rattle.std.specs.Prelude.{◌≡◌, ℕ, ◌≤◌, ◌<◌, List, [], ◌∷◌, ◌++◌};
 ghost use Rattle.c_lexer.specs.declared.token.Token.{Token};
 ghost use Rattle.c_types.specs.Trees.{Tree, Forest, height, forest_height};
 ghost use Rattle.c_grammar.specs.Scopes.{Names};
@@ -50,6 +50,19 @@ pub fn derived_is_found()
     ensures wrong { (d : ℕ) (a rest : List Token) (t : Tree)
         → read_unit d a ≡ wrong rest
         → IsTreeOf a t
+        → ⊥ }
+{}
+
+/// What is read up to a place is said of all lists that begin so: where it is too deep, each of their trees is higher
+/// than the budget, and where a token is wrong, no list that goes on with it has a tree.
+pub fn cut()
+    ensures deep { (d : ℕ) (pre rest other : List Token) (t : Tree)
+        → read_unit d (pre ++ rest) ≡ deep rest
+        → IsTreeOf (pre ++ other) t
+        → d < height t }
+    ensures wrong { (d : ℕ) (pre rest other : List Token) (next : Token) (t : Tree)
+        → read_unit d (pre ++ next ∷ rest) ≡ wrong (next ∷ rest)
+        → IsTreeOf (pre ++ next ∷ other) t
         → ⊥ }
 {}
 

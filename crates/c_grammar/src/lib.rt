@@ -28,4 +28,4 @@
 
 mod laws;
 
-pub use laws::{derived_is_found, found_is_derived, front_of_derivation, one_tree};
+pub use laws::{cut, derived_is_found, found_is_derived, front_of_derivation, one_tree};
