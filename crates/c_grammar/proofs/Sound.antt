@@ -222,7 +222,7 @@ module _ (d : ℕ) (r : Reader) (sound : IsSound d r) where
 
 -- ---- by the budget
 
-none_sound : IsSound 0 no_reader
+pub none_sound : IsSound 0 no_reader
 none_sound = record { tree = λ goal names ts. says_wrong; trees = λ row names ts. says_wrong }
 
 pub read_sound : (d : ℕ) → IsSound (suc d) (read d)

@@ -19,17 +19,17 @@ use Rattle.c_grammar.proofs.SoundTypes.{specs_sound}
 -- ---- declarators
 
 -- a declarator as far as it is read, which more suffixes may follow
-data IsChain : Mode → Names → List Token → List Token → Tree → Type 0 where
+pub data IsChain : Mode → Names → List Token → List Token → Tree → Type 0 where
   named_chain : {mode : Mode} {names : Names} {a b : List Token} {t : Tree} → has_name mode ≡ true → Derives names rule.direct_declarator a b t → IsChain mode names a b t
   unnamed_chain : {mode : Mode} {names : Names} {a b : List Token} {t : Tree} → needs_name mode ≡ false → Derives names rule.direct_abstract a b t → IsChain mode names a b t
   no_chain : {mode : Mode} {names : Names} {b : List Token} → needs_name mode ≡ false → IsChain mode names b b (no_name b)
 
-chain_ends : {mode : Mode} {names : Names} {a b : List Token} {t : Tree} → IsChain mode names a b t → IsDeclared mode names a b t
+pub chain_ends : {mode : Mode} {names : Names} {a b : List Token} {t : Tree} → IsChain mode names a b t → IsDeclared mode names a b t
 chain_ends (named_chain h d) = with_name h (rule.direct d)
 chain_ends (unnamed_chain h d) = without_name h (rule.direct_of d)
 chain_ends (no_chain h) = absent h
 
-chain_array : {mode : Mode} {names : Names} {a b c : List Token} {at at2 : Place} {x : Tree} {n : Forest}
+pub chain_array : {mode : Mode} {names : Names} {a b c : List Token} {at at2 : Place} {x : Tree} {n : Forest}
     → IsChain mode names a (mark LeftBracket at ∷ b) x
     → Lists (if is_absent_by x.label.kind then names else after names x) rule.optional_length b (mark RightBracket at2 ∷ c) n
     → IsChain mode names a c (plain_node kind.ArrayOf (start x) (x then n))
@@ -37,7 +37,7 @@ chain_array (named_chain h d) n = named_chain h (rule.array_of d (rw (direct_pre
 chain_array (unnamed_chain h d) n = unnamed_chain h (rule.abstract_array d (rw (abstract_present d) at n))
 chain_array (no_chain h) n = unnamed_chain h (rule.bare_array (rw absent_kind at n))
 
-chain_named : {mode : Mode} {names : Names} {a b : List Token} {x : Tree}
+pub chain_named : {mode : Mode} {names : Names} {a b : List Token} {x : Tree}
     → IsChain mode names a b x
     → is_named (one x) ≡ true
     → (has_name mode ≡ true) × Derives names rule.direct_declarator a b x
@@ -45,7 +45,7 @@ chain_named (named_chain h d) e = (h, d)
 chain_named (unnamed_chain h d) e = absurd (true≢false (sym e ∙ abstract_unnamed d))
 chain_named (no_chain {b = b} h) e = absurd (true≢false (sym e ∙ absent_unnamed (start_of b)))
 
-pointer_to : {mode : Mode} {names : Names} {at : Place} {a b : List Token} {x : Tree}
+pub pointer_to : {mode : Mode} {names : Names} {at : Place} {a b : List Token} {x : Tree}
     → IsDeclared mode names (behind_const a) b x
     → IsDeclared mode names (mark Star at ∷ a) b (plain_node kind.Pointer at.start (one x))
 pointer_to {a = a} p = by (qualifiers a) p
@@ -58,7 +58,7 @@ pointer_to {a = a} p = by (qualifiers a) p
     by q (without_name h d) = without_name h (rule.abstract_pointer q d)
     by q (absent h) = without_name h (rule.bare_pointer q)
 
-parenthesized : {mode : Mode} {names : Names} {at at2 : Place} {a b c : List Token} {x : Tree}
+pub parenthesized : {mode : Mode} {names : Names} {at at2 : Place} {a b c : List Token} {x : Tree}
     → c ≡ mark RightParenthesis at2 ∷ b
     → is_absent_by x.label.kind ≡ false
     → IsDeclared mode names a c x
@@ -67,7 +67,7 @@ parenthesized {names = names} {a = a} {x = x} e f (with_name h d) = named_chain 
 parenthesized {names = names} {a = a} {x = x} e f (without_name h d) = unnamed_chain h (rule.abstract_in_parentheses (subst (λ y. Derives names rule.abstract_declarator a y x) e d))
 parenthesized e f (absent h) = absurd (true≢false (sym absent_kind ∙ f))
 
-parameter_of : {names : Names} {a b c : List Token} {s x : Tree}
+pub parameter_of : {names : Names} {a b c : List Token} {s x : Tree}
     → Derives names rule.specifiers a b s
     → IsDeclared Mode.either (after names s) b c x
     → Derives names rule.parameter a c (plain_node kind.Param (start s) (two s x))
@@ -75,7 +75,7 @@ parameter_of s (with_name h d) = rule.named_parameter s d
 parameter_of s (without_name h d) = rule.abstract_parameter s d
 parameter_of s (absent h) = rule.bare_parameter s
 
-type_of : {names : Names} {a b c : List Token} {s x : Tree}
+pub type_of : {names : Names} {a b c : List Token} {s x : Tree}
     → Derives names rule.specifiers a b s
     → IsDeclared Mode.unnamed (after names s) b c x
     → Derives names rule.type_name a c (plain_node kind.TypeName (start s) (two s x))

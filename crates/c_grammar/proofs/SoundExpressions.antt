@@ -51,7 +51,7 @@ as_unary_by (rule.tightest x) e = by x e
     by (rule.cast_to t x) e = absurd (true≢false (sym e))
     by (rule.uncast x) e = x
 
-as_unary : {names : Names} {a b : List Token} {x : Tree} → Derives names rule.conditional a b x → is_unary_by x.label.kind ≡ true → Derives names rule.unary a b x
+pub as_unary : {names : Names} {a b : List Token} {x : Tree} → Derives names rule.conditional a b x → is_unary_by x.label.kind ≡ true → Derives names rule.unary a b x
 unfolding is_unary_by
 as_unary (rule.unconditional x) e = as_unary_by x e
 as_unary (rule.choice x y z) e = absurd (true≢false (sym e))
@@ -59,7 +59,7 @@ as_unary (rule.choice x y z) e = absurd (true≢false (sym e))
 -- ---- within the budget d
 
 module _ (d : ℕ) (r : Reader) (sound : IsSound d r) where
-  primary_sound : {names : Names} {ts : List Token} {h : Ahead} → IsAhead ts h → Says (Is (suc d) (Derives names rule.primary) ts) (primary_by d r names ts h)
+  pub primary_sound : {names : Names} {ts : List Token} {h : Ahead} → IsAhead ts h → Says (Is (suc d) (Derives names rule.primary) ts) (primary_by d r names ts h)
   unfolding primary_by
   primary_sound {names} (is_word {text = text}) = says_if (is_variable names text)
       (λ e. says_fit _ _ _ (λ k. says_good (rule.variable (both_true e).0 (not_true _ (both_true e).1)) (omega arith)))

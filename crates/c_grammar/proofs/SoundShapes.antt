@@ -192,7 +192,7 @@ parameter_void (rule.abstract_parameter {s = s} {d = d} h i) e =
     absurd (true≢false (sym (lone_absent (plain_node kind.Param (rule.start s) none).label s.label s.kids d.label d.kids e) ∙ is_present i))
 parameter_void (rule.bare_parameter {s = s} h) e = specs_void (plain_node kind.Param (rule.start s) none).label _ h e
 
-parameters_void : {names : Names} {a b : List Token} {ts : Forest} → Lists names rule.parameters a b ts → is_lone_void ts ≡ true → IsVoid a b
+pub parameters_void : {names : Names} {a b : List Token} {ts : Forest} → Lists names rule.parameters a b ts → is_lone_void ts ≡ true → IsVoid a b
 parameters_void (rule.last_parameter d) e = parameter_void d e
 parameters_void (rule.more_parameters {t = t} d (rule.last_parameter {t = u} d2)) e = absurd (two_parameters t.label t.kids u.label u.kids none e)
 parameters_void (rule.more_parameters {t = t} d (rule.more_parameters {t = u} {ts = us} d2 ds)) e = absurd (two_parameters t.label t.kids u.label u.kids us e)

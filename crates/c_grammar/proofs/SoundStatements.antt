@@ -17,14 +17,14 @@ use Rattle.c_grammar.proofs.SoundExpressions.{IsSound, says_good, says_as, expre
 use Rattle.c_grammar.proofs.SoundTypes.{says_lower_tree, specs_sound}
 use Rattle.c_grammar.proofs.SoundDeclarators.{declarator_of, declared_sound}
 
-function_of : {names : Names} {a b c e : List Token} {s x body : Tree}
+pub function_of : {names : Names} {a b c e : List Token} {s x body : Tree}
     → Derives names rule.specifiers a b s
     → Derives (after names s) rule.declarator b c x
     → IsBody (in_body names s x) c e body
     → Derives names rule.external a e (plain_node kind.Function (start s) (three s x body))
 function_of s x (body_of items) = rule.function s x items
 
-block_of_body : {names : Names} {a b : List Token} {t : Tree} → IsBody (opened names) a b t → Derives names rule.statement a b t
+pub block_of_body : {names : Names} {a b : List Token} {t : Tree} → IsBody (opened names) a b t → Derives names rule.statement a b t
 block_of_body (body_of items) = rule.block_statement (rule.block_of items)
 
 module _ (d : ℕ) (r : Reader) (sound : IsSound d r) where

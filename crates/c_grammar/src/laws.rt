@@ -66,6 +66,13 @@ pub fn cut()
         → ⊥ }
 {}
 
+/// Where the reading is too deep, the tokens before the place begin a list that has a tree.
+pub fn completion()
+    ensures { (d : ℕ) (ts rest : List Token)
+        → read_unit d ts ≡ deep rest
+        → (pre : List Token) × (other : List Token) × (t : Tree) × (ts ≡ pre ++ rest) × IsTreeOf (pre ++ other) t }
+{}
+
 /// Two trees of one token list are equal.
 pub fn one_tree()
     ensures { (a : List Token) (t u : Tree) → IsTreeOf a t → IsTreeOf a u → t ≡ u }

@@ -28,4 +28,4 @@
 
 mod laws;
 
-pub use laws::{cut, derived_is_found, found_is_derived, front_of_derivation, one_tree};
+pub use laws::{completion, cut, derived_is_found, found_is_derived, front_of_derivation, one_tree};

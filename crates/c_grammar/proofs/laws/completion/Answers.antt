@@ -1,0 +1,5 @@
+use Rattle.c_grammar.proofs.Completions.{unit_completes}
+use Rattle.c_grammar.proofs.laws.completion.Goals as goal
+
+pub returns : goal.returns
+returns c d ts rest e = unit_completes d ts rest e
