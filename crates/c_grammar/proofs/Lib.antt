@@ -63,3 +63,4 @@ pub mod CompletionTypesSteps
 pub mod CompletionVoid
 pub mod CompletionMembers
 pub mod Completions
+pub mod FaultPlaces
