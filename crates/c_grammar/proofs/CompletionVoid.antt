@@ -54,23 +54,41 @@ record Goes (names : Names) (at : Place) (t : Token) : Type 0 where
 word_goes : (names : Names) (at : Place) (text : List ℕ) (at2 : Place) → goes_on_behind_void_by (word_ahead text at2 []) ≡ true → Goes names at (word text at2)
 unfolding goes_on_behind_void_by begins_specifier_by
 word_goes names at text at2 e = one_of (is_type_word text) (is_storage_word text) (bytes_eq text (codes "struct")) (bytes_eq text (codes "enum")) (is_identifier text) e
-    (λ e. record { least = []; completes = λ z _.
-      has _ (rule.last_parameter (rule.bare_parameter (rule.specs (rule.more_specifiers (rule.specifier_word refl) (rule.last_specifier (rule.specifier_word e) refl))))) })
-    (λ e. rw (word_is text _ e) (record { least = a_name ∷ []; completes = λ z _.
-      has _ (rule.last_parameter (rule.bare_parameter (rule.specs (rule.more_specifiers (rule.specifier_word refl) (rule.last_specifier (rule.struct_of (rule.struct_tag refl)) refl))))) }))
-    (λ e. rw (word_is text _ e) (record { least = a_name ∷ []; completes = λ z _.
-      has _ (rule.last_parameter (rule.bare_parameter (rule.specs (rule.more_specifiers (rule.specifier_word refl) (rule.last_specifier (rule.enum_of (rule.enum_tag refl)) refl))))) }))
+    (λ e. record {
+      least = [];
+      completes = λ z _.
+          has _ (rule.last_parameter (rule.bare_parameter (rule.specs (rule.more_specifiers (rule.specifier_word refl) (rule.last_specifier (rule.specifier_word e) refl)))));
+    })
+    (λ e. rw (word_is text _ e) (record {
+      least = a_name ∷ [];
+      completes = λ z _.
+          has _ (rule.last_parameter (rule.bare_parameter (rule.specs (rule.more_specifiers (rule.specifier_word refl) (rule.last_specifier (rule.struct_of (rule.struct_tag refl)) refl)))));
+    }))
+    (λ e. rw (word_is text _ e) (record {
+      least = a_name ∷ [];
+      completes = λ z _.
+          has _ (rule.last_parameter (rule.bare_parameter (rule.specs (rule.more_specifiers (rule.specifier_word refl) (rule.last_specifier (rule.enum_of (rule.enum_tag refl)) refl)))));
+    }))
     (λ e. record { least = []; completes = λ z _. has _ (rule.last_parameter (rule.named_parameter (rule.specs void_list) (rule.direct (rule.declared_name e)))) })
 
 mark_goes : (names : Names) (at : Place) (p : Punct) (at2 : Place) → goes_on_behind_void_by (mark_ahead p at2 []) ≡ true → Goes names at (mark p at2)
 unfolding goes_on_behind_void_by
 mark_goes names at Star at2 e = record { least = []; completes = λ z _. has _ (rule.last_parameter (rule.abstract_parameter (rule.specs void_list) (rule.bare_pointer rule.no_qualifier))) }
-mark_goes names at LeftParenthesis at2 e = record { least = a_mark Star ∷ a_mark RightParenthesis ∷ []; completes = λ z _.
-  has _ (rule.last_parameter (rule.abstract_parameter (rule.specs void_list) (rule.direct_of (rule.abstract_in_parentheses (rule.bare_pointer rule.no_qualifier))))) }
-mark_goes names at LeftBracket at2 e = record { least = a_mark RightBracket ∷ []; completes = λ z _.
-  has _ (rule.last_parameter (rule.abstract_parameter (rule.specs void_list) (rule.direct_of (rule.bare_array rule.no_length)))) }
-mark_goes names at Comma at2 e = record { least = a_word (codes "int") ∷ []; completes = λ z _.
-  has _ (rule.more_parameters (rule.bare_parameter (rule.specs void_list)) (rule.last_parameter (rule.bare_parameter int_specifiers))) }
+mark_goes names at LeftParenthesis at2 e = record {
+  least = a_mark Star ∷ a_mark RightParenthesis ∷ [];
+  completes = λ z _.
+      has _ (rule.last_parameter (rule.abstract_parameter (rule.specs void_list) (rule.direct_of (rule.abstract_in_parentheses (rule.bare_pointer rule.no_qualifier)))));
+}
+mark_goes names at LeftBracket at2 e = record {
+  least = a_mark RightBracket ∷ [];
+  completes = λ z _.
+      has _ (rule.last_parameter (rule.abstract_parameter (rule.specs void_list) (rule.direct_of (rule.bare_array rule.no_length))));
+}
+mark_goes names at Comma at2 e = record {
+  least = a_word (codes "int") ∷ [];
+  completes = λ z _.
+      has _ (rule.more_parameters (rule.bare_parameter (rule.specs void_list)) (rule.last_parameter (rule.bare_parameter int_specifiers)));
+}
 mark_goes names at _ at2 e = absurd (true≢false (sym e))
 
 -- behind `void` and the token that goes on

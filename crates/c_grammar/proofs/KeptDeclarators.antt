@@ -40,10 +40,10 @@ stays t rest here = ([], sym (here rest), λ c h. by c (h ∙ ap first (here res
 -- this token is left out
 goes : (t : Token) (rest : List Token) → ((c : List Token) → behind_const (t ∷ c) ≡ behind_const c) → Skipped rest → Skipped (t ∷ rest)
 goes t rest out n = (
-    t ∷ n.0,
-    ap (λ a. t ∷ a) n.1 ∙ ap (λ a. t ∷ (n.0 ++ a)) (sym (out rest)),
-    λ c h. out (n.0 ++ c) ∙ n.2 c (h ∙ ap first (out rest)),
-  )
+  t ∷ n.0,
+  ap (λ a. t ∷ a) n.1 ∙ ap (λ a. t ∷ (n.0 ++ a)) (sym (out rest)),
+  λ c h. out (n.0 ++ c) ∙ n.2 c (h ∙ ap first (out rest)),
+)
 
 skipped_by : (k : TokenKind) (at : Place) (rest : List Token) → Skipped rest → Skipped (record { kind = k; start = at.start; end = at.end } ∷ rest)
 unfolding behind_const behind_const_by

@@ -13,14 +13,17 @@
 // `found_is_derived`: what is read within a budget is derived, and no higher than the budget. On
 // `derived_is_found`: what is derived is read within each budget that its height is in, and is too deep
 // within each lower one; so what is read to be wrong has no tree of any height. On
+// `cut` and `completion`: where a reading is too deep, all trees of all lists that begin so are higher, and
+// one of these lists has a tree; where a token is wrong, no list that goes on with it has one. On
 // `front_of_derivation`: what is derived is a front of the tokens, and it is derived before each rest
 // that begins with the same token.
 //
 // The proofs: `proofs/Sound*.antt` take a reading apart; `proofs/Complete.antt` says what a derivation
 // says of the reading, `proofs/Complete*.antt` has one case for each rule, and `proofs/Completeness.antt`
-// puts them together, over the steps of `proofs/Budgets.antt`. `proofs/Derived.antt` derives short lists
+// puts them together, over the steps of `proofs/Budgets.antt`. `proofs/Kept*.antt`: a reading depends on the
+// tokens up to its place alone. `proofs/Completion*.antt`: least completions. `proofs/Derived.antt` derives short lists
 // where a rule is easy to get wrong; `proofs/Refused.antt` and `proofs/NoTrees.antt` have lists without a
-// tree.
+// tree, `proofs/FaultPlaces.antt` places of faults.
 //
 // Source: C99 6.5 to 6.9 and A.2, without what docs/DECISIONS.md leaves out; chains that grow to the left
 // are read as loops, as in recursive descent (Aho and others, Compilers, 4.3 and 4.4).
@@ -28,4 +31,6 @@
 
 mod laws;
 
-pub use laws::{completion, cut, derived_is_found, found_is_derived, front_of_derivation, one_tree};
+pub use laws::{
+    completion, cut, derived_is_found, found_is_derived, front_of_derivation, one_tree,
+};
