@@ -1,12 +1,12 @@
 // Syntax trees.
 //
-// In comes a tree as the parser makes it, each node with its kids. Out goes the same tree as a table,
+// In comes a tree as the parser will make it, each node with its kids. Out goes the same tree as a table,
 // and its text.
 //
 // The idea: a table has the nodes in post-order, kids before their parents. The id of a node is its
 // place, a subtree is an interval of ids that ends in its root, and all that a later judgement of a node
-// needs has a smaller id. `specs/Trees.antt` has the trees, `specs/Tables.antt` the table of a tree, and
-// the tree of a table; contracts see a `Syntax` as its table.
+// will need has a smaller id. `specs/Trees.antt` has the trees, `specs/Tables.antt` the table of a tree, and
+// the tree of a table, `specs/TreeText.antt` the text of a tree; contracts see a `Syntax` as its table.
 //
 // The invariant of a `Syntax`: its nodes are the table of a tree, and its height is that of the tree.
 //

@@ -3,16 +3,17 @@
 // In comes the text of a unit. Out goes its assembly, where the unit is `int putchar(int);`, then a
 // `main` that calls `putchar` on constants and returns one; or the answer that it is no such unit.
 //
-// The idea: this is the thinnest path from a text to a machine that runs. `first_form` reads the
-// unit, and `first_unit` makes its one function. They stand in a crate of their own, which goes when
-// the whole language comes.
+// The idea: a small form is compiled from its text to assembly that the machine runs. `first_form` reads
+// the unit, `first_unit` makes its one function, and `compile` does both. The crate is to be removed when
+// the whole language is compiled.
 //
 // The invariant: a text is one unit of the first form at most, so that what was read is what the
 // text says (`proofs/FirstForms.antt`).
 //
-// The theorem, on `compile_first`: the assembly is that of the unit and is well formed, and the
-// machine that runs it writes the unit's bytes and ends with its status, on every layout with room
-// for its frame and for every input; and there is none exactly where the text is of another form.
+// The theorem, on `compile_first`: the assembly is that of the unit and is well formed, and on every layout
+// that holds it with a stack of at least 16 bytes, for every input, the machine that runs it writes the
+// unit's bytes and ends with its status; and there is none exactly where the text is of another form. Where
+// memory is refused it says nothing.
 //
 // Source: C99 5.1.2.2.3 (the status of `main`); the frame and the calls are those of the RISC-V
 // calling convention.

@@ -3,17 +3,21 @@
 // In comes an `AsmUnit`: functions of lines, and the items of the data section. Out goes its text,
 // which an assembler reads.
 //
-// The idea: definitions carry the meaning, and code only prints. `specs/Text.antt` is the text,
-// `specs/WellFormed.antt` what makes a unit one, `specs/Loading.antt` the instructions and the bytes
-// that stand in memory (labels, `%hi` and `%lo` have become numbers there), and
-// `specs/Machine.antt` the machine: its step, its run, the environment calls.
+// The idea: what a unit means is in definitions, and code only prints. `specs/Text.antt` is the text,
+// `specs/WellFormed.antt` what makes a unit well formed. `specs/Routines.antt` has the instructions before
+// the functions, `specs/Places.antt` the instructions of a unit in their order and where labels are among
+// them, `specs/Loading.antt` the instructions and the bytes in memory (labels, `%hi` and `%lo` have become
+// numbers there), and `specs/Machine.antt` the machine: its step, its run, the environment calls.
 //
 // The invariant of a run: it comes from one state to another after at least some steps
 // (`proofs/Runs.antt`, `Comes`), and this composes. There is one lemma for each class of instruction.
-// `proofs/UnitStands.antt` has where the functions and the start-up code of a unit stand, and
-// `proofs/RoutineRuns.antt` what `_start`, `c_getchar` and `c_putchar` do.
+// `proofs/UnitStands.antt` has where the functions and the start-up code of a unit are.
+// `proofs/StartLines.antt`: the lines before the functions are the text of the instructions there, but for
+// the branch to `.Lend`. `proofs/RoutineRuns.antt`: what `_start`, `c_getchar` and `c_putchar` do, from any
+// state at the first instruction (and `_start` from the one behind its call), with the code in place; the
+// two routines change no register but t1, a0 to a2 and a7.
 //
-// The theorem, on `text_of`: the bytes are exactly the text of the unit.
+// The theorem, on `text_of`: the bytes are exactly the text of the unit, where it is well formed.
 //
 // Source: The RISC-V Instruction Set Manual, Volume I, edition of December 2019, 2 (RV32I) and 7
 // (M); the RISC-V Assembly Programmer's Manual, for the spelling of lines, the names of registers,
