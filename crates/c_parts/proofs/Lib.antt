@@ -1,0 +1,4 @@
+pub mod Levels
+pub mod Heights
+pub mod Rows
+pub mod NameLaws
