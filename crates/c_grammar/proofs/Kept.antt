@@ -1,4 +1,4 @@
--- What is answered within a budget depends on the tokens up to the place that the answer names.
+-- A reading depends on the tokens before its place and, unless it is too deep, on the token there.
 use Rattle.std.proofs.Common.{◌≡◌, ℕ, zero, suc, ◌≤◌, false, List, [], ◌∷◌, ◌++◌, length, length-append, if◌then◌else◌, refl, sym, ap, ◌∙◌, arith}
 use Rattle.c_lexer.specs.declared.token.Token.{Token}
 use Rattle.c_types.specs.Trees.{Forest, ◌then◌, forest_height}

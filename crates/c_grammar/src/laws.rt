@@ -53,8 +53,8 @@ pub fn derived_is_found()
         → ⊥ }
 {}
 
-/// What is read up to a place is said of all lists that begin so: where it is too deep, each of their trees is higher
-/// than the budget, and where a token is wrong, no list that goes on with it has a tree.
+/// Where a list is too deep at a place, each tree of each list that begins with the tokens before the place is higher
+/// than the budget. Where a token is wrong, no list that begins with the tokens up to it, it included, has a tree.
 pub fn cut()
     ensures deep { (d : ℕ) (pre rest other : List Token) (t : Tree)
         → read_unit d (pre ++ rest) ≡ deep rest

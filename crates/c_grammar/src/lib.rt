@@ -1,13 +1,13 @@
 // The grammar: which syntax tree a token list has.
 //
-// This crate has definitions and laws, and no code that runs. The parser's contract and the checker's
-// will cite the definitions, so the crate comes before both.
+// This crate has definitions and laws, and no code that runs. The parser's contract cites the definitions,
+// and the checker's will, so the crate comes before both.
 //
 // The idea: `Derives` has one case for each alternative of the grammar, over whole parts: it speaks of
 // the tokens from one list on, up to a rest, and of the tree that they have. Whether an identifier is a
 // typedef name is read from the scopes before the part; the scopes behind it are a function of its tree
 // (`specs/Scopes.antt`). `specs/Reading.antt` reads trees with a budget for their height. It serves the
-// laws; contracts on trees are to name the derivation and heights alone.
+// laws; contracts on trees name the derivation and heights alone.
 //
 // The theorem, on `one_tree`: two trees of one token list are equal. It rests on what `derived_is_found`
 // rests on: what is derived is read within each budget that its height is in.

@@ -65,8 +65,8 @@ fn put_kind(out: &mut Bytes, kind: &TokenKind) -> Result<(), AllocError>
     }
 }
 
-// A punctuator as it is written.
-fn mark_text(mark: Punct) -> &'static str
+/// A punctuator as it is written.
+pub fn mark_text(mark: Punct) -> &'static str
     ensures { result.now ≡ mark_text mark }
 {
     match mark {

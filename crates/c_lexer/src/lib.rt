@@ -32,7 +32,7 @@ mod place;
 mod scan;
 mod token;
 
-pub use dump::tokens_text;
+pub use dump::{mark_text, tokens_text};
 pub use lexer::lex;
 pub use place::line_of;
 pub use token::{IntType, LexFault, Punct, Token, TokenKind, Tokens};

@@ -1,5 +1,7 @@
 // Declarators, and what they declare.
-ghost use Rattle.std.specs.Prelude.{◌≡◌, ◌≤◌, ◌<◌, ◌^◌, ◌+◌, ◌∷◌, ◌++◌, [], max, length, map, codes, IfOk, OnOk};
+#![tactic(auto, using(crate::proofs::NameLaws::after_none), unfolding(c_grammar::specs::Reading::after_any, c_grammar::specs::Reading::has_name, c_grammar::specs::Reading::needs_name, c_grammar::specs::Reading::is_absent_by, c_grammar::specs::Reading::is_named_by))]
+
+ghost use Rattle.std.specs.Prelude.{◌≡◌, ◌<◌, ◌^◌, ◌+◌, max, map, IfOk};
 ghost use Rattle.c_types.specs.declared.kind.SynKind.TheVariants as kind;
 ghost use Rattle.c_types.specs.Trees.{none, one, ◌then◌, seen, forest_of, text_node, plain_node};
 ghost use Rattle.c_grammar.specs.Scopes as scopes;
@@ -21,14 +23,14 @@ pub enum Mode {
 }
 
 impl Mode {
-    #[tactic(auto, unfolding(c_grammar::specs::Reading::has_name))]
+    /// It may have one.
     pub fn has_name(self) -> bool
         ensures { result ≡ reading.has_name (mode_of self) }
     {
         !matches!(self, Mode::Unnamed)
     }
 
-    #[tactic(auto, unfolding(c_grammar::specs::Reading::needs_name))]
+    /// It must have one.
     pub fn needs_name(self) -> bool
         ensures { result ≡ reading.needs_name (mode_of self) }
     {
@@ -55,7 +57,6 @@ pub struct Declarator<'a> {
 }
 
 /// The kind of the place of an absent name.
-#[tactic(auto, unfolding(c_grammar::specs::Reading::is_absent_by))]
 pub fn is_absent(kind: SynKind) -> bool
     ensures { result ≡ reading.is_absent_by kind }
 {
@@ -63,7 +64,7 @@ pub fn is_absent(kind: SynKind) -> bool
 }
 
 impl<'a> Declarator<'a> {
-    #[tactic(auto, using(crate::proofs::NameLaws::after_none), unfolding(c_grammar::specs::Reading::after_any, c_grammar::specs::Reading::is_absent_by, c_grammar::specs::Reading::is_named_by))]
+    /// A name.
     pub fn named(alloc: Global, name: &'a str, start: usize) -> Result<Declarator<'a>, AllocError>
         ensures tree { IfOk result (λ x. seen x.part.tree ≡ text_node kind.Ident name.now start none) }
         ensures height { IfOk result (λ x. x.part.height ≡ 1) }
@@ -77,7 +78,7 @@ impl<'a> Declarator<'a> {
         })
     }
 
-    #[tactic(auto, using(crate::proofs::NameLaws::after_none), unfolding(c_grammar::specs::Reading::after_any, c_grammar::specs::Reading::is_absent_by, c_grammar::specs::Reading::is_named_by))]
+    /// The place of an absent name.
     pub fn absent(alloc: Global, start: usize) -> Result<Declarator<'a>, AllocError>
         ensures tree { IfOk result (λ x. seen x.part.tree ≡ plain_node kind.NoName start none) }
         ensures height { IfOk result (λ x. x.part.height ≡ 1) }
@@ -91,7 +92,7 @@ impl<'a> Declarator<'a> {
         })
     }
 
-    #[tactic(auto, using(crate::proofs::NameLaws::after_none), unfolding(c_grammar::specs::Reading::after_any, c_grammar::specs::Reading::is_absent_by, c_grammar::specs::Reading::is_named_by))]
+    /// A pointer to what this declares; `start` is the place of its `*`.
     pub fn pointer(
         alloc: Global,
         start: usize,
@@ -110,7 +111,7 @@ impl<'a> Declarator<'a> {
         })
     }
 
-    #[tactic(auto, using(crate::proofs::NameLaws::after_none), unfolding(c_grammar::specs::Reading::after_any, c_grammar::specs::Reading::is_absent_by, c_grammar::specs::Reading::is_named_by))]
+    /// This in parentheses; `start` is the place of the first one.
     pub fn enclosed(
         alloc: Global,
         start: usize,
@@ -129,7 +130,7 @@ impl<'a> Declarator<'a> {
         })
     }
 
-    #[tactic(auto, using(crate::proofs::NameLaws::after_none), unfolding(c_grammar::specs::Reading::after_any, c_grammar::specs::Reading::is_absent_by, c_grammar::specs::Reading::is_named_by))]
+    /// An array of what this declares, with its length or none.
     pub fn array(
         alloc: Global,
         x: Declarator<'a>,
@@ -149,6 +150,7 @@ impl<'a> Declarator<'a> {
         })
     }
 
+    /// A function `(void)` of what this declares.
     pub fn takes_nothing(alloc: Global, x: Declarator<'a>) -> Result<Declarator<'a>, AllocError>
         requires { x.part.height + 1 < 2 ^ 64 }
         ensures tree { IfOk result (λ y. seen y.part.tree ≡ plain_node kind.Takes (seen x.entry.part.tree).label.start (one (seen x.entry.part.tree))) }
@@ -157,7 +159,7 @@ impl<'a> Declarator<'a> {
         Declarator::takes(alloc, x, Parts::new(alloc), Vec::new(alloc))
     }
 
-    #[tactic(auto, using(crate::proofs::NameLaws::after_none), unfolding(c_grammar::specs::Reading::after_any, c_grammar::specs::Reading::is_absent_by, c_grammar::specs::Reading::is_named_by))]
+    /// A function of what this declares, with its parameters and what they declare.
     pub fn takes(
         alloc: Global,
         x: Declarator<'a>,

@@ -1,10 +1,8 @@
 // Specs, and what they say.
-ghost use Rattle.std.specs.Prelude.{◌≡◌, ◌≤◌, ◌<◌, ◌^◌, ◌+◌, ◌∷◌, ◌++◌, [], max, length, map, codes, IfOk, OnOk};
-ghost use Rattle.c_types.specs.declared.kind.SynKind.TheVariants as kind;
-ghost use Rattle.c_types.specs.Trees.{none, one, ◌then◌, seen, forest_of, text_node, plain_node};
-ghost use Rattle.c_grammar.specs.Scopes as scopes;
+ghost use Rattle.std.specs.Prelude.{◌≡◌, ◌≤◌, ◌∷◌, ◌++◌, [], max, length, IfOk, OnOk, OnErr};
+ghost use Rattle.c_types.specs.Trees;
+ghost use Rattle.c_grammar.specs.Scopes;
 ghost use Rattle.c_grammar.specs.Derivation;
-ghost use Rattle.c_grammar.specs.Reading as reading;
 ghost use Rattle.c_parts.specs.Kinds.{kind_of};
 
 use crate::part::{Part, Parts};
@@ -59,7 +57,8 @@ impl SpecifierRow {
     pub fn push(&mut self, next: Specifier) -> Result<(), AllocError>
         requires { 1 ≤ length self.now.parts.trees.items }
         ensures trees { OnOk result (self.new.parts.trees.items ≡ self.old.parts.trees.items ++ (next.part.tree ∷ [])) }
-        ensures height { OnOk result (self.new.parts.height ≡ Rattle.std.specs.Prelude.max self.old.parts.height next.part.height) }
+        ensures height { OnOk result (self.new.parts.height ≡ max self.old.parts.height next.part.height) }
+        ensures kept { OnErr result (self.new.parts.trees.items ≡ self.old.parts.trees.items) }
     {
         let is_typedef = self.is_typedef || next.is_typedef;
         self.parts.push(next.part)?;

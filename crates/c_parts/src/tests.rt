@@ -15,7 +15,7 @@ fn has_text(alloc: Global, part: Part, wanted: &[u8]) -> Result<bool, Fail> {
     Ok(text.as_slice() == wanted)
 }
 
-// `a?"b":c[1]` with a statement behind it in one node that is no C, to have each call once.
+// A tree that no C has, made by all of the calls.
 #[test]
 fn nodes(rt: HostRuntime) -> Result<(), Fail> {
     let alloc = rt.alloc();

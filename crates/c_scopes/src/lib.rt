@@ -12,8 +12,8 @@
 // say.
 //
 // The theorem, on `is_typedef_name`: the answer is that of the definition in `c_grammar`, for the scopes
-// that there are. Each other call changes the scopes as its contract says; after a refusal of memory the
-// contracts say nothing of them.
+// that there are. Each other call changes the scopes as its contract says. Where memory is refused, `open`
+// and `add` leave them as they were, and of `take_innermost` and `add_all` the contracts say nothing.
 //
 // Source: C99 6.2.1; the table with a log that is undone is that of Cooper and Torczon, Engineering a
 // Compiler, 5.5.3.

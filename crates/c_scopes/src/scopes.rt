@@ -1,5 +1,5 @@
 // Scopes by a log and a map.
-ghost use Rattle.std.specs.Prelude.{◌≡◌, ◌<◌, ◌++◌, ◌∷◌, [], List, ℕ, drop, map, if◌then◌else◌, IfNone, IfOk, IfSome, OnOk};
+ghost use Rattle.std.specs.Prelude.{◌≡◌, ◌<◌, ◌++◌, ◌∷◌, [], List, ℕ, drop, map, if◌then◌else◌, IfNone, IfOk, IfSome, OnErr, OnOk};
 ghost use Rattle.c_grammar.specs.Scopes.{add, entry, is_typedef_name, opened};
 ghost use Rattle.std.specs.Str.{bytes_eq};
 ghost use Rattle.c_scopes.specs.ScopeLog.{declared_again, entry_of, innermost, recorded};
@@ -86,7 +86,8 @@ impl<'a> Scopes<'a> {
 
     /// A new innermost scope.
     pub fn open(&mut self) -> Result<(), AllocError>
-        ensures { OnOk result (self.new ≡ opened self.old) }
+        ensures ok { OnOk result (self.new ≡ opened self.old) }
+        ensures err { OnErr result (self.new ≡ self.old) }
     {
         self.log.push(Step::Opened)?;
         self.depth += 1;
@@ -136,7 +137,8 @@ impl<'a> Scopes<'a> {
 
     /// Declares a name in the innermost scope, where there is one.
     pub fn add(&mut self, name: &'a str, is_typedef: bool) -> Result<(), AllocError>
-        ensures { OnOk result (self.new ≡ add self.old (entry name.now is_typedef)) }
+        ensures ok { OnOk result (self.new ≡ add self.old (entry name.now is_typedef)) }
+        ensures err { OnErr result (self.new ≡ self.old) }
     {
         if self.depth == 0 {
             return Ok(());

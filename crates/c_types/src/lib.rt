@@ -1,6 +1,6 @@
 // Syntax trees.
 //
-// In comes a tree as the parser will make it, each node with its kids. Out goes the same tree as a table,
+// In comes a tree as the parser makes it, each node with its kids. Out goes the same tree as a table,
 // and its text.
 //
 // The idea: a table has the nodes in post-order, kids before their parents. The id of a node is its

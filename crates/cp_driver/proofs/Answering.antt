@@ -1,17 +1,19 @@
 -- The answers of a call, from how it comes to them.
 use Rattle.std.proofs.Common.{◌≡◌, ℕ, ◌<◌, ◌≤◌, ◌⊎◌, inl, inr, Bool, false, List, length, Option, Some, None, refl, sym, ap, ◌∙◌, subst, arith}
 use Rattle.cp_base.specs.Outside.{Contents, Rose, Tells, Lacks}
+use Rattle.cp_driver.specs.declared.job.Stage.TheVariants.{Tree}
 use Rattle.cp_driver.specs.declared.job.Task.{Task}
+use Rattle.cp_driver.specs.declared.job.Task.TheVariants.{Dump}
 use Rattle.cp_driver.specs.declared.report.Fault.{Fault}
-use Rattle.cp_driver.specs.declared.report.Fault.TheVariants.{Lexical, Usage, ReadFault, WriteFault, TooLong, NotYet, OutOfMemory}
+use Rattle.cp_driver.specs.declared.report.Fault.TheVariants.{Lexical, Syntax, TooDeep, Usage, ReadFault, WriteFault, TooLong, NotYet, OutOfMemory}
 use Rattle.cp_driver.specs.declared.report.Report.{Report}
 use Rattle.cp_driver.specs.declared.report.Done.{Done}
 use Rattle.cp_driver.specs.Jobs.{Job, file_of}
-use Rattle.cp_driver.specs.Making.{Refuses}
+use Rattle.cp_driver.specs.Making.{HasNoLowTree, Refuses, RefusesTree}
 use Rattle.cp_driver.specs.Messages.{IsTold}
-use Rattle.cp_driver.specs.Answers.{file_limit, NoFault, IsRead, RefusesFile, Call, Because, LeavesOutput, IsMade, ComesTo, ComesAfterRead, Answers}
+use Rattle.cp_driver.specs.Answers.{file_limit, NoFault, IsRead, RefusesFile, RefusesTreeOf, Call, Because, LeavesOutput, IsMade, ComesTo, ComesAfterRead, ComesToTreeFault, Answers}
 use Rattle.cp_driver.specs.Causes.{MakeCause, Cause, Leaves}
-use Rattle.cp_driver.proofs.Makings.{IsAccepted, accepts_made, one_refusal}
+use Rattle.cp_driver.proofs.Makings.{IsAccepted, refuses_once, made_by, accepts_made, made_has_tree, one_refusal}
 
 -- told contents have a file or lack it
 one_of_both : (contents : Option Contents) (file bytes : List ℕ) → Tells contents file bytes → Lacks contents file → ⊥
@@ -40,6 +42,8 @@ read_is_short contents read file text r told long = let same = ap length (r.told
 -- bytes that a task makes nothing of
 pub make_cause : (fault : Fault) (task : Task) (file bytes : List ℕ) (contents : Option Contents) (reads reads' writes writes' : ℕ) → IsRead contents file bytes → MakeCause fault task bytes → Cause fault contents reads reads' writes writes' bytes task file
 make_cause (Lexical at) task file bytes contents reads reads' writes writes' r h = (r, h)
+make_cause (Syntax at) task file bytes contents reads reads' writes writes' r h = (r, h)
+make_cause (TooDeep at) task file bytes contents reads reads' writes writes' r h = (r, h)
 make_cause NotYet task file bytes contents reads reads' writes writes' r h = (r, h)
 make_cause OutOfMemory task file bytes contents reads reads' writes writes' r h = tt
 make_cause Usage task file bytes contents reads reads' writes writes' r h = absurd h
@@ -65,6 +69,8 @@ module _ (job : Option Job) (done : Done) (call : Call) where
 
   because : (fault : Fault) (bytes : List ℕ) (task : Task) (file : List ℕ) → Asks job task file → Stops fault bytes task file → Because fault job bytes call
   because (Lexical at) bytes task file e s = record { task = task; file = file; asked = e; holds = s.0 }
+  because (Syntax at) bytes task file e s = record { task = task; file = file; asked = e; holds = s.0 }
+  because (TooDeep at) bytes task file e s = record { task = task; file = file; asked = e; holds = s.0 }
   because NotYet bytes task file e s = record { task = task; file = file; asked = e; holds = s.0 }
   because (ReadFault input) bytes task file e s = record { task = task; file = file; asked = e; holds = s.0 }
   because (TooLong input) bytes task file e s = record { task = task; file = file; asked = e; holds = s.0 }
@@ -75,6 +81,8 @@ module _ (job : Option Job) (done : Done) (call : Call) where
   leaves_output : (fault : Fault) (bytes : List ℕ) (task : Task) (file : List ℕ) → Asks job task file → Stops fault bytes task file → LeavesOutput fault job call
   leaves_output WriteFault bytes task file e s = record { task = task; file = file; asked = e; holds = s.1 }
   leaves_output (Lexical at) bytes task file e s = s.1
+  leaves_output (Syntax at) bytes task file e s = s.1
+  leaves_output (TooDeep at) bytes task file e s = s.1
   leaves_output NotYet bytes task file e s = s.1
   leaves_output (ReadFault input) bytes task file e s = s.1
   leaves_output (TooLong input) bytes task file e s = s.1
@@ -104,6 +112,8 @@ module _ (job : Option Job) (done : Done) (call : Call) where
   first_lacking (ReadFault input) bytes task file s lacks = inl (ap ReadFault s.0.0)
   first_lacking (TooLong input) bytes task file s lacks = absurd (s.0.1.1 lacks)
   first_lacking (Lexical at) bytes task file s lacks = absurd (s.0.0.there lacks)
+  first_lacking (Syntax at) bytes task file s lacks = absurd (s.0.0.there lacks)
+  first_lacking (TooDeep at) bytes task file s lacks = absurd (s.0.0.there lacks)
   first_lacking NotYet bytes task file s lacks = absurd (s.0.0.there lacks)
   first_lacking WriteFault bytes task file s lacks = absurd (s.1.read.there lacks)
   first_lacking OutOfMemory bytes task file s lacks = inr refl
@@ -119,10 +129,16 @@ module _ (job : Option Job) (done : Done) (call : Call) where
     first_long (ReadFault input) bytes s long = read_failed input (TooLong false) bytes s
     first_long (TooLong input) bytes s long = inr (inl (ap TooLong s.0.0))
     first_long (Lexical at) bytes s long = absurd (read_is_short call.contents bytes file text s.0.0 told long)
+    first_long (Syntax at) bytes s long = absurd (read_is_short call.contents bytes file text s.0.0 told long)
+    first_long (TooDeep at) bytes s long = absurd (read_is_short call.contents bytes file text s.0.0 told long)
     first_long NotYet bytes s long = absurd (read_is_short call.contents bytes file text s.0.0 told long)
     first_long WriteFault bytes s long = absurd (read_is_short call.contents s.1.bytes file text s.1.read told long)
     first_long OutOfMemory bytes s long = inr (inr refl)
     first_long Usage bytes s long = absurd s.0
+
+    -- where the told bytes are refused by a fault that is no fault of the tree, none of the tree comes
+    no_tree_fault : (fault wanted : Fault) (bytes : List ℕ) → RefusesTreeOf fault call.contents bytes task file → Refuses task text wanted → ⊥
+    no_tree_fault fault wanted bytes r s = refuses_once task text fault wanted (subst (λ b. RefusesTree task b fault) (r.0.told text told) r.1) s
 
     -- the bytes that were read are those that are told
     refuses_told : (fault : Fault) (bytes : List ℕ) → RefusesFile fault call.contents bytes task file → Refuses task text fault
@@ -132,11 +148,40 @@ module _ (job : Option Job) (done : Done) (call : Call) where
     first_refused (ReadFault input) wanted bytes s le r = read_failed input wanted bytes s
     first_refused (TooLong input) wanted bytes s le r = let long = s.0.1.0 text told in absurd (omega (arith, long, le))
     first_refused (Lexical at) wanted bytes s le r = inr (inl (one_refusal task text (Lexical at) wanted (refuses_told (Lexical at) bytes s.0) r))
+    first_refused (Syntax at) wanted bytes s le r = absurd (no_tree_fault (Syntax at) wanted bytes s.0 r)
+    first_refused (TooDeep at) wanted bytes s le r = absurd (no_tree_fault (TooDeep at) wanted bytes s.0 r)
     first_refused NotYet wanted bytes s le r = inr (inl (one_refusal task text NotYet wanted (refuses_told NotYet bytes s.0) r))
     first_refused WriteFault wanted bytes s le r =
-        absurd (accepts_made task s.1.bytes s.1.text s.1.report s.1.makes wanted (subst (λ b. Refuses task b wanted) (sym (s.1.read.told text told)) r))
+        absurd ((accepts_made task s.1.bytes s.1.text s.1.report s.1.makes).once wanted (subst (λ b. Refuses task b wanted) (sym (s.1.read.told text told)) r))
     first_refused OutOfMemory wanted bytes s le r = inr (inr refl)
     first_refused Usage wanted bytes s le r = absurd s.0
+
+  -- ---- bytes that have no tree within the limit
+
+  -- the fault that comes first is one of the tree
+  IsFirstOfTree : Fault → Type 0
+  IsFirstOfTree fault = (at : ℕ) × (IsFirstAfterRead fault (Syntax at) ⊎ IsFirstAfterRead fault (TooDeep at))
+
+  comes_of_tree : (fault : Fault) (bytes : List ℕ) → Told fault bytes → IsFirstOfTree fault → ComesToTreeFault done call
+  unfolding IsFirstOfTree
+  comes_of_tree fault bytes t (at, inl e) = (at, inl (comes_after_read fault (Syntax at) bytes t e))
+  comes_of_tree fault bytes t (at, inr e) = (at, inr (comes_after_read fault (TooDeep at) bytes t e))
+
+  no_memory_of_tree : (bytes : List ℕ) → Told OutOfMemory bytes → ComesToTreeFault done call
+  no_memory_of_tree bytes t = (0, inl (inr (comes OutOfMemory (Syntax 0) bytes t (inr refl))))
+
+  module _ (file text : List ℕ) (told : Tells call.contents file text) (le : length text ≤ file_limit) (no_tree : HasNoLowTree text) where
+    first_of_tree : (fault : Fault) (bytes : List ℕ) → Stops fault bytes (Dump Tree) file → IsFirstOfTree fault
+    unfolding IsFirstOfTree
+    first_of_tree (ReadFault input) bytes s = (0, inl (read_failed (Dump Tree) file text told input (Syntax 0) bytes s))
+    first_of_tree (TooLong input) bytes s = let long = s.0.1.0 text told in absurd (omega (arith, long, le))
+    first_of_tree (Lexical at) bytes s = absurd ((refuses_told (Dump Tree) file text told (Lexical at) bytes s.0).2.none no_tree.tokens no_tree.listed)
+    first_of_tree NotYet bytes s = let not_compiled = s.0.1.0 in absurd (cc not_compiled)
+    first_of_tree (Syntax at) bytes s = (at, inl (inr (inl refl)))
+    first_of_tree (TooDeep at) bytes s = (at, inr (inr (inl refl)))
+    first_of_tree WriteFault bytes s = absurd (made_has_tree s.1.bytes s.1.text s.1.report s.1.makes (subst HasNoLowTree (sym (s.1.read.told text told)) no_tree))
+    first_of_tree OutOfMemory bytes s = (0, inl (inr (inr refl)))
+    first_of_tree Usage bytes s = absurd s.0
 
   -- ---- whole answers
 
@@ -148,6 +193,7 @@ module _ (job : Option Job) (done : Done) (call : Call) where
     lacking = λ task file f lacks. absurd (no_and_one job task file e f);
     too_long = λ task file text f told long. absurd (no_and_one job task file e f);
     refused = λ task file text fault f told le r. absurd (no_and_one job task file e f);
+    no_low_tree = λ file text f told le none. absurd (no_and_one job (Dump Tree) file e f);
     write_fault = write_cause Usage bytes e t;
   }
 
@@ -159,6 +205,7 @@ module _ (job : Option Job) (done : Done) (call : Call) where
     lacking = λ task file f lacks. comes OutOfMemory (ReadFault false) bytes t (inr refl);
     too_long = λ task file text f told long. inr (comes OutOfMemory (TooLong false) bytes t (inr refl));
     refused = λ task file text fault f told le r. inr (comes OutOfMemory fault bytes t (inr refl));
+    no_low_tree = λ file text f told le none. no_memory_of_tree bytes t;
     write_fault = write_cause OutOfMemory bytes tt t;
   }
 
@@ -176,6 +223,8 @@ module _ (job : Option Job) (done : Done) (call : Call) where
       too_long = λ other word text f told long. comes_after_read fault (TooLong false) bytes t (first_long task file text (of_asked (λ _ w. Tells call.contents w text) other word f told) fault bytes s long);
       refused = λ other word text wanted f told le r. comes_after_read fault wanted bytes t
           (first_refused task file text (of_asked (λ _ w. Tells call.contents w text) other word f told) fault wanted bytes s le (of_asked (λ u _. Refuses u text wanted) other word f r));
+      no_low_tree = λ word text f told le none. comes_of_tree fault bytes t
+          (first_of_tree word text told le none fault bytes (subst (λ j. Stops fault bytes j.task j.file) (one_job job _ _ e f) s));
       write_fault = write_cause fault bytes why t;
     }
       where
@@ -192,8 +241,11 @@ module _ (job : Option Job) (done : Done) (call : Call) where
       usage = λ f. absurd (no_and_one job task file f e);
       lacking = λ other word f lacks. absurd (m.read.there (of_asked (λ _ w. Lacks call.contents w) other word f lacks));
       too_long = λ other word text f told long. absurd (read_is_short call.contents m.bytes file text m.read (of_asked (λ _ w. Tells call.contents w text) other word f told) long);
-      refused = λ other word text wanted f told le r. absurd (accepts_made task m.bytes m.text report m.makes wanted
+      refused = λ other word text wanted f told le r. absurd ((accepts_made task m.bytes m.text report m.makes).once wanted
           (subst (λ b. Refuses task b wanted) (sym (m.read.told text (of_asked (λ _ w. Tells call.contents w text) other word f told))) (of_asked (λ u _. Refuses u text wanted) other word f r)));
+      no_low_tree = λ word text f told le none.
+          let made = made_by call.contents report call.out call.out' _ _ (one_job job _ _ e f) m in
+          absurd (made_has_tree made.bytes made.text report made.makes (subst HasNoLowTree (sym (made.read.told text told)) none));
       write_fault = λ f. absurd (cc (d, f));
     }
 
@@ -205,8 +257,10 @@ module _ (contents : Option Contents) (reads reads' writes writes' lines lines' 
   not_refused (ReadFault input) (same, inl rose) t n m told le ok = n.read rose
   not_refused (ReadFault input) (same, inr lacks) t n m told le ok = one_of_both contents file text told lacks
   not_refused (TooLong input) h t n m told le ok = let long = h.1.0 text told in omega (arith, long, le)
-  not_refused (Lexical at) h t n m told le ok = ok (Lexical at) (subst (λ b. Refuses task b (Lexical at)) (h.0.told text told) h.1)
-  not_refused NotYet h t n m told le ok = ok NotYet (subst (λ b. Refuses task b NotYet) (h.0.told text told) h.1)
+  not_refused (Lexical at) h t n m told le ok = ok.once (Lexical at) (subst (λ b. Refuses task b (Lexical at)) (h.0.told text told) h.1)
+  not_refused (Syntax at) h t n m told le ok = ok.tree (Syntax at) (subst (λ b. RefusesTree task b (Syntax at)) (h.0.told text told) h.1)
+  not_refused (TooDeep at) h t n m told le ok = ok.tree (TooDeep at) (subst (λ b. RefusesTree task b (TooDeep at)) (h.0.told text told) h.1)
+  not_refused NotYet h t n m told le ok = ok.once NotYet (subst (λ b. Refuses task b NotYet) (h.0.told text told) h.1)
   not_refused WriteFault h t n m told le ok = n.output h
   not_refused OutOfMemory h (inl t) n m told le ok = m (ap (λ d. d.fault) t.0)
   not_refused OutOfMemory h (inr t) n m told le ok = n.error t.1

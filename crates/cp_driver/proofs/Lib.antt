@@ -1,4 +1,5 @@
 pub mod PieceLaws
+pub mod TreeMakings
 pub mod Makings
 pub mod Answering
 pub mod CommandLine

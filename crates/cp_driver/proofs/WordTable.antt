@@ -2,7 +2,7 @@
 use Rattle.std.proofs.Common.{◌≡◌, ℕ, List, [], ◌∷◌, Option, Some, None, refl}
 use Rattle.std.specs.Prelude.{codes, map, option_map}
 use Rattle.clap.proofs.OnLiterals.{clap_on_literals}
-use Rattle.cp_driver.specs.declared.job.Stage.TheVariants.{Tokens}
+use Rattle.cp_driver.specs.declared.job.Stage.TheVariants.{Tokens, Tree}
 use Rattle.cp_driver.specs.Jobs.{Job, compile, dump, job_of}
 
 abbrev Words : Type 0
@@ -84,10 +84,17 @@ dump_rows =
     (codes "--dump" ∷ codes "tokens" ∷ codes "-" ∷ [], Some (dump Tokens (codes "-"))) ∷
     (codes "--dump" ∷ codes "tokens" ∷ codes "--" ∷ codes "-S" ∷ [], Some (dump Tokens (codes "-S"))) ∷
     (codes "--dump" ∷ codes "tokens" ∷ codes "tokens" ∷ [], Some (dump Tokens (codes "tokens"))) ∷
+    (codes "--dump" ∷ codes "tree" ∷ codes "f" ∷ [], Some (dump Tree (codes "f"))) ∷
+    (codes "--dump=tree" ∷ codes "f" ∷ [], Some (dump Tree (codes "f"))) ∷
+    (codes "f" ∷ codes "--dump" ∷ codes "tree" ∷ [], Some (dump Tree (codes "f"))) ∷
+    (codes "f" ∷ codes "--dump=tree" ∷ [], Some (dump Tree (codes "f"))) ∷
+    (codes "--dump" ∷ codes "tree" ∷ codes "-" ∷ [], Some (dump Tree (codes "-"))) ∷
+    (codes "--dump" ∷ codes "tree" ∷ codes "tokens" ∷ [], Some (dump Tree (codes "tokens"))) ∷
     (codes "--" ∷ codes "--dump" ∷ [], Some (compile (codes "--dump"))) ∷
     -- no FILE, and no value
     (codes "--dump" ∷ codes "tokens" ∷ [], None) ∷
     (codes "--dump=tokens" ∷ [], None) ∷
+    (codes "--dump" ∷ codes "tree" ∷ [], None) ∷
     (codes "--dump" ∷ [], None) ∷
     (codes "--dump" ∷ codes "f" ∷ [], None) ∷
     (codes "--dump=" ∷ [], None) ∷
@@ -99,7 +106,10 @@ dump_rows =
     -- another name or another stage
     (codes "--du" ∷ codes "tokens" ∷ codes "f" ∷ [], None) ∷
     (codes "-dump" ∷ codes "tokens" ∷ codes "f" ∷ [], None) ∷
-    (codes "--dump" ∷ codes "tree" ∷ codes "f" ∷ [], None) ∷
+    (codes "--du" ∷ codes "tree" ∷ codes "f" ∷ [], None) ∷
+    (codes "--dump" ∷ codes "trees" ∷ codes "f" ∷ [], None) ∷
+    (codes "--dump" ∷ codes "Tree" ∷ codes "f" ∷ [], None) ∷
+    (codes "--dump=tre" ∷ codes "f" ∷ [], None) ∷
     (codes "--dump" ∷ codes "Tokens" ∷ codes "f" ∷ [], None) ∷
     (codes "--dump" ∷ codes "token" ∷ codes "f" ∷ [], None) ∷
     (codes "--dump" ∷ codes "tokens " ∷ codes "f" ∷ [], None) ∷
@@ -108,6 +118,7 @@ dump_rows =
     (codes "--dump" ∷ codes "tokens" ∷ codes "-S" ∷ codes "f" ∷ [], None) ∷
     (codes "-S" ∷ codes "--dump" ∷ codes "tree" ∷ codes "f" ∷ [], None) ∷
     (codes "--dump" ∷ codes "tokens" ∷ codes "--dump" ∷ codes "tokens" ∷ codes "f" ∷ [], None) ∷
+    (codes "--dump" ∷ codes "tokens" ∷ codes "--dump" ∷ codes "tree" ∷ codes "f" ∷ [], None) ∷
     (codes "--dump=tokens" ∷ codes "--dump=tokens" ∷ codes "f" ∷ [], None) ∷
     (codes "--dump" ∷ codes "tokens" ∷ codes "f" ∷ codes "g" ∷ [], None) ∷ []
 

@@ -4,13 +4,14 @@ use Rattle.cp_base.specs.Outside.{Contents, Rose, Tells, Lacks, gained, GainsFro
 use Rattle.rv_code.specs.Text.{text_of}
 use Rattle.rv_code.specs.WellFormed.{IsWellFormed}
 use Rattle.cp_first.specs.FirstUnit.{first_unit}
+use Rattle.cp_driver.specs.declared.job.Stage.TheVariants.{Tree}
 use Rattle.cp_driver.specs.declared.job.Task.{Task}
 use Rattle.cp_driver.specs.declared.report.Fault.{Fault}
-use Rattle.cp_driver.specs.declared.report.Fault.TheVariants.{Lexical, Usage, ReadFault, WriteFault, TooLong, NotYet, OutOfMemory}
+use Rattle.cp_driver.specs.declared.report.Fault.TheVariants.{Lexical, Syntax, TooDeep, Usage, ReadFault, WriteFault, TooLong, NotYet, OutOfMemory}
 use Rattle.cp_driver.specs.declared.report.Report.{Report}
 use Rattle.cp_driver.specs.declared.report.Done.{Done}
-use Rattle.cp_driver.specs.Jobs.{Job, file_of}
-use Rattle.cp_driver.specs.Making.{Makes, Refuses}
+use Rattle.cp_driver.specs.Jobs.{Job, dump, file_of}
+use Rattle.cp_driver.specs.Making.{HasNoLowTree, Makes, Refuses, RefusesTree}
 use Rattle.cp_driver.specs.Messages.{IsTold}
 
 -- the greatest number of bytes of a file
@@ -82,12 +83,18 @@ pub record OnFile (job : Option Job) (Holds : Task → List ℕ → Type 0) : Ty
 abbrev pub RefusesFile : Fault → Option Contents → List ℕ → Task → List ℕ → Type 0
 RefusesFile fault contents bytes task file = IsRead contents file bytes × Refuses task bytes fault
 
+-- the same, and the task refuses them by a fault of their syntax tree
+abbrev pub RefusesTreeOf : Fault → Option Contents → List ℕ → Task → List ℕ → Type 0
+RefusesTreeOf fault contents bytes task file = IsRead contents file bytes × RefusesTree task bytes fault
+
 -- why each fault comes, where FILE has these bytes if it was read
 abbrev pub Because : Fault → Option Job → List ℕ → Call → Type 0
 Because Usage job bytes call = job ≡ None
 Because (ReadFault input) job bytes call = OnFile job (λ task file. (input ≡ false) × CannotRead call.contents call.read_faults call.read_faults' file)
 Because (TooLong input) job bytes call = OnFile job (λ task file. (input ≡ false) × IsTooLong call.contents file)
 Because (Lexical at) job bytes call = OnFile job (RefusesFile (Lexical at) call.contents bytes)
+Because (Syntax at) job bytes call = OnFile job (RefusesTreeOf (Syntax at) call.contents bytes)
+Because (TooDeep at) job bytes call = OnFile job (RefusesTreeOf (TooDeep at) call.contents bytes)
 Because NotYet job bytes call = OnFile job (RefusesFile NotYet call.contents bytes)
 Because WriteFault job bytes call = Rose call.write_faults call.write_faults'
 Because OutOfMemory job bytes call = Unit {0}
@@ -108,6 +115,8 @@ LeavesOutput Usage job call = call.out' ≡ call.out
 LeavesOutput (ReadFault input) job call = call.out' ≡ call.out
 LeavesOutput (TooLong input) job call = call.out' ≡ call.out
 LeavesOutput (Lexical at) job call = call.out' ≡ call.out
+LeavesOutput (Syntax at) job call = call.out' ≡ call.out
+LeavesOutput (TooDeep at) job call = call.out' ≡ call.out
 LeavesOutput NotYet job call = call.out' ≡ call.out
 LeavesOutput OutOfMemory job call = call.out' ≡ call.out
 
@@ -144,8 +153,12 @@ ComesTo fault done call =
 abbrev pub ComesAfterRead : Fault → Done → Call → Type 0
 ComesAfterRead fault done call = ((done.fault ≡ Some (ReadFault false)) × Rose call.read_faults call.read_faults') ⊎ ComesTo fault done call
 
+-- the same of a fault of the syntax tree: a wrong token, or what nests too deep, at some place
+abbrev pub ComesToTreeFault : Done → Call → Type 0
+ComesToTreeFault done call = (at : ℕ) × (ComesAfterRead (Syntax at) done call ⊎ ComesAfterRead (TooDeep at) done call)
+
 -- what a call answers, and in which order: words that are no job, then a file that cannot be read or is too long, then bytes
--- that the task refuses
+-- that the task refuses, and of those that have a token list but no tree within the limit a fault of the tree
 pub record Answers (job : Option Job) (done : Done) (call : Call) : Type 0 where
   pub either : IsDone job done call ⊎ IsRefused job done call
   pub usage : job ≡ None → ComesTo Usage done call
@@ -155,4 +168,6 @@ pub record Answers (job : Option Job) (done : Done) (call : Call) : Type 0 where
       → file_limit < length bytes → ComesAfterRead (TooLong false) done call
   pub refused : (task : Task) (file bytes : List ℕ) (fault : Fault) → job ≡ Some (record { task = task; file = file }) → Tells call.contents file bytes
       → length bytes ≤ file_limit → Refuses task bytes fault → ComesAfterRead fault done call
+  pub no_low_tree : (file bytes : List ℕ) → job ≡ Some (dump Tree file) → Tells call.contents file bytes → length bytes ≤ file_limit → HasNoLowTree bytes
+      → ComesToTreeFault done call
   pub write_fault : done.fault ≡ Some WriteFault → Rose call.write_faults call.write_faults' ⊎ Rose call.line_faults call.line_faults'

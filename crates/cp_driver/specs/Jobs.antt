@@ -6,7 +6,7 @@ use Rattle.clap.specs.Words.{App, Kinds, Row, Rule, new_app, new_rule, with_rule
 use Rattle.clap.specs.declared.builder.action.ArgAction.TheVariants.{Set, SetTrue}
 use Rattle.clap.specs.declared.builder.value_parser.ValueParser.TheVariants.{NonEmptyString}
 use Rattle.cp_driver.specs.declared.job.Stage.{Stage}
-use Rattle.cp_driver.specs.declared.job.Stage.TheVariants.{Tokens}
+use Rattle.cp_driver.specs.declared.job.Stage.TheVariants.{Tokens, Tree}
 use Rattle.cp_driver.specs.declared.job.Task.{Task}
 use Rattle.cp_driver.specs.declared.job.Task.TheVariants.{Compile, Dump}
 
@@ -62,7 +62,7 @@ options_of rows = record { assembly = has_flag (codes "assembly") rows; dump = f
 
 -- the stage of this name
 abbrev pub stage_of : List ℕ → Option Stage
-stage_of name = if bytes_eq name (codes "tokens") then Some Tokens else None
+stage_of name = if bytes_eq name (codes "tokens") then Some Tokens else if bytes_eq name (codes "tree") then Some Tree else None
 
 -- the one task that the options ask for. Without an option for a task it is that of `-S`
 abbrev pub task_of : Bool → Option (List ℕ) → Option Task

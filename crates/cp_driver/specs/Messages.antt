@@ -6,10 +6,12 @@ use Rattle.c_lexer.specs.Places.{line_number, column_number}
 use Rattle.cp_base.specs.Outside.{Rose, gained, GainsFront}
 use Rattle.cp_driver.specs.declared.report.Done.{Done}
 use Rattle.cp_driver.specs.declared.report.Fault.{Fault}
-use Rattle.cp_driver.specs.declared.report.Fault.TheVariants.{Lexical, Usage, ReadFault, WriteFault, TooLong, NotYet, OutOfMemory}
+use Rattle.cp_driver.specs.declared.report.Fault.TheVariants.{Lexical, Syntax, TooDeep, Usage, ReadFault, WriteFault, TooLong, NotYet, OutOfMemory}
 
 abbrev pub status_of : Fault → ℕ
 status_of (Lexical at) = 1
+status_of (Syntax at) = 1
+status_of (TooDeep at) = 5
 status_of Usage = 2
 status_of (ReadFault input) = 3
 status_of WriteFault = 4
@@ -28,6 +30,8 @@ error_text file bytes at what = concat (
 -- the line, where FILE has this name and these bytes
 abbrev pub fault_text : List ℕ → List ℕ → Fault → List ℕ
 fault_text file bytes (Lexical at) = error_text file bytes at (codes "no token here\n")
+fault_text file bytes (Syntax at) = error_text file bytes at (codes "syntax error\n")
+fault_text file bytes (TooDeep at) = error_text file bytes at (codes "nested too deep\n")
 fault_text file bytes Usage = usage_text
 fault_text file bytes (ReadFault input) = codes "cparser: " ++ (file ++ codes ": read failed\n")
 fault_text file bytes WriteFault = codes "cparser: write failed\n"
@@ -38,6 +42,8 @@ fault_text file bytes OutOfMemory = codes "cparser: out of memory\n"
 -- the place of the fault, where it has one, is in these bytes or at their end
 abbrev pub HasPlace : List ℕ → Fault → Type 0
 HasPlace bytes (Lexical at) = at ≤ length bytes
+HasPlace bytes (Syntax at) = at ≤ length bytes
+HasPlace bytes (TooDeep at) = at ≤ length bytes
 HasPlace bytes Usage = Unit {0}
 HasPlace bytes (ReadFault input) = Unit {0}
 HasPlace bytes WriteFault = Unit {0}

@@ -24,8 +24,8 @@ const FILE_LIMIT: usize = 4_194_304;
 /// Does the job that the words ask for, over these files and sinks. The first word is the
 /// program's name.
 ///
-/// The job is to write the assembly of a file, or its tokens; `-` is standard input. Only units of the
-/// first form are compiled so far.
+/// The job is to write the assembly of a file, its tokens or its syntax tree; `-` is standard input. Only
+/// units of the first form are compiled so far.
 pub fn cparser<F: Files, O: Sink, E: Sink>(
     alloc: Global,
     words: &Names,

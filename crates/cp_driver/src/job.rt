@@ -5,6 +5,8 @@
 pub enum Stage {
     /// Its tokens.
     Tokens,
+    /// Its syntax tree.
+    Tree,
 }
 
 /// What is made of FILE.

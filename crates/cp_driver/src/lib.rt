@@ -6,8 +6,8 @@
 // The idea: a job is a task and a file (`job`). `words` reads the job by `clap`; `make` has the passes that
 // make a task's text of the file's bytes, each with its own contract: `cp_first` and `rv_code` compile and
 // print a unit of the first form (calls of `putchar` on constants, and a return, which is all that is
-// compiled so far), `c_lexer` lists tokens; `message` writes a fault's line. The call, in `driver`, composes
-// them; `report` has its answer.
+// compiled so far), `c_lexer` lists tokens, `c_parser` finds their syntax tree; `message` writes a fault's
+// line. The call, in `driver`, composes them; `report` has its answer.
 //
 // The invariant: of each fault it is known why it came, and what the output has gained by then.
 // `specs/Jobs.antt` says which job the words ask for, `specs/Making.antt` what each task makes and refuses,
@@ -19,7 +19,8 @@
 // answer has status 0 and the unit's assembly, which is well formed, and the output has gained exactly its
 // text. Wherever there is an assembly of such a file, the machine that runs it writes the unit's bytes and
 // ends with its status, on every layout that holds it with a stack of at least 16 bytes. In the same way the
-// tokens of a file that has a token list are written, where the words ask for them.
+// tokens of a file that has a token list are written, where the words ask for them, and its syntax tree,
+// where the list has one that is at most 500 high.
 //
 // Each fault has its cause, its status and its line, and there is an order among them. Where the line cannot
 // be written, the status is 4, and a front of the line is written. With a fault the output has gained

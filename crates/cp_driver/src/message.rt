@@ -17,11 +17,11 @@ impl Fault {
         ensures { result ≡ status_of self.now }
     {
         match self {
-            Fault::Lexical { .. } | Fault::NotYet => 1,
+            Fault::Lexical { .. } | Fault::Syntax { .. } | Fault::NotYet => 1,
             Fault::Usage => 2,
             Fault::ReadFault { .. } => 3,
             Fault::WriteFault => 4,
-            Fault::TooLong { .. } => 5,
+            Fault::TooLong { .. } | Fault::TooDeep { .. } => 5,
             Fault::OutOfMemory => 6,
         }
     }
@@ -42,6 +42,8 @@ pub fn put_fault<E: Sink>(
 {
     match fault {
         Fault::Lexical { at } => put_error(err, file, bytes, *at, b"no token here\n"),
+        Fault::Syntax { at } => put_error(err, file, bytes, *at, b"syntax error\n"),
+        Fault::TooDeep { at } => put_error(err, file, bytes, *at, b"nested too deep\n"),
         Fault::Usage => put_all(err, USAGE.as_bytes()),
         Fault::ReadFault { .. } => put_about(err, file, b": read failed\n"),
         Fault::WriteFault => put_all(err, b"cparser: write failed\n"),

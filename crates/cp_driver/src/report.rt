@@ -6,6 +6,10 @@ use rv_code::AsmUnit;
 pub enum Fault {
     /// At this byte offset of FILE there is no token.
     Lexical { at: usize },
+    /// The token at this byte offset of FILE cannot stand there; at the end, FILE cannot end there.
+    Syntax { at: usize },
+    /// What stands before this byte offset of FILE nests too deep.
+    TooDeep { at: usize },
     /// The words are no job.
     Usage,
     /// A file is not there, or could not be read.

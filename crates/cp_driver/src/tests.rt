@@ -61,11 +61,12 @@ const HI_TEXT: &[u8] = b"\
     \t.zero 1\n\
 ";
 
-// How many bytes the output takes a call, and which call of each object fails, counted from 1; 0 for
-// none.
+// How many bytes the output takes a call and in all, and which call of each object fails, counted from
+// 1; 0 for none.
 #[derive(Clone, Copy)]
 struct Host {
     piece: usize,
+    room: usize,
     read: usize,
     output: usize,
     error: usize,
@@ -73,13 +74,14 @@ struct Host {
 
 const NO_FAULT: Host = Host {
     piece: 256,
+    room: 4096,
     read: 0,
     output: 0,
     error: 0,
 };
 
-const FILES: [&str; 8] = [
-    "hi.c", "r1.c", "r2.c", "r14.c", "r29.c", "r32.c", "r38.c", "r39.c",
+const FILES: [&str; 10] = [
+    "hi.c", "r1.c", "r2.c", "r4.c", "r14.c", "r29.c", "r32.c", "r38.c", "r39.c", "r40.c",
 ];
 
 const USAGE: &str = "usage: cparser [-S] [--regs K] [--dump STAGE] [--syntax-only] [--run INPUT] \
@@ -108,12 +110,25 @@ fn names(alloc: Global, words: &[&str]) -> Result<Names, AllocError> {
 fn call(alloc: Global, words: &[&str], text: &[u8], host: Host) -> Result<Outcome, AllocError>
     requires { 0 < host.piece }
 {
+    call_on(alloc, &FILES, words, text, host)
+}
+
+// A call with these words, on these files, each of this text.
+fn call_on(
+    alloc: Global,
+    names_of_files: &[&str],
+    words: &[&str],
+    text: &[u8],
+    host: Host,
+) -> Result<Outcome, AllocError>
+    requires { 0 < host.piece }
+{
     let mut files = MemFiles::new(alloc);
-    for name in FILES {
+    for name in names_of_files {
         files.add(name, text)?;
     }
     files.fail(host.read)?;
-    let mut out = MemSink::new(alloc, host.piece, 4096)?;
+    let mut out = MemSink::new(alloc, host.piece, host.room)?;
     out.fail(host.output)?;
     let mut err = MemSink::new(alloc, 4096, 4096)?;
     err.fail(host.error)?;
@@ -198,6 +213,11 @@ fn dump_tokens(alloc: Global, file: &str, text: &[u8]) -> Result<Outcome, AllocE
     )
 }
 
+// A call of `--dump tree` on a file of this text.
+fn dump_tree(alloc: Global, file: &str, text: &[u8]) -> Result<Outcome, AllocError> {
+    call(alloc, &["cparser", "--dump", "tree", file], text, NO_FAULT)
+}
+
 // A whole dump, with nothing on the error sink.
 fn is_dump(outcome: &Outcome, text: &str) -> bool {
     outcome.done.status == 0
@@ -220,6 +240,88 @@ fn dumps(rt: HostRuntime) -> Result<(), Fail> {
     let outcome = dump_tokens(rt.alloc(), "r32.c", b"int x=0x1F;")?;
     let lines = "0 3 word int\n4 5 word x\n5 6 punct =\n6 10 int 31\n10 11 punct ;\n";
     assert!(rt; is_dump(&outcome, lines));
+    let outcome = dump_tree(rt.alloc(), "r1.c", b"int main(void){return 7;}")?;
+    let lines = "\
+        unit\n  function\n    specs\n      word int\n    takes\n      name main\n    block\n      \
+        return\n        int 7\n";
+    assert!(rt; is_dump(&outcome, lines));
+    Ok(())
+}
+
+// A parameter hides a typedef name, so that `(t)` is no type; a typedef name is no value.
+#[test]
+fn typedef_hidden(rt: HostRuntime) -> Result<(), Fail> {
+    let text = b"typedef int t;int f(int t){return (t)*2;}";
+    let outcome = dump_tree(rt.alloc(), "r40.c", text)?;
+    let lines = "\
+        unit\n  declaration\n    specs\n      word typedef\n      word int\n    initdecl\n      \
+        name t\n  function\n    specs\n      word int\n    takes\n      name f\n      param\n        \
+        specs\n          word int\n        name t\n    block\n      return\n        binary *\n          \
+        paren\n            var t\n          int 2\n";
+    assert!(rt; is_dump(&outcome, lines));
+    let outcome = dump_tree(rt.alloc(), "r40.c", b"typedef int t;int x=t;")?;
+    assert!(rt; is_refused(&outcome, 1, "r40.c:1:21: error: syntax error\n"));
+    assert!(rt; matches!(outcome.done.fault, Some(Fault::Syntax { at: 20 })));
+    Ok(())
+}
+
+#[test]
+fn empty_file(rt: HostRuntime) -> Result<(), Fail> {
+    let outcome = dump_tree(rt.alloc(), "r4.c", b"")?;
+    assert!(rt; is_refused(&outcome, 1, "r4.c:1:1: error: syntax error\n"));
+    Ok(())
+}
+
+// A file of blanks has no tree; one that is longer than the limit is not judged.
+#[test]
+fn too_long(rt: HostRuntime) -> Result<(), Fail> {
+    let words: &[&str] = &["cparser", "--dump", "tree", "r20.c"];
+    let mut text = Bytes::new(rt.alloc());
+    let blanks = [b' '; 4096];
+    for _ in 0..1024 {
+        text.push_all(&blanks)?;
+    }
+    let outcome = call_on(rt.alloc(), &["r20.c"], words, text.as_slice(), NO_FAULT)?;
+    assert!(rt; is_refused(&outcome, 1, "r20.c:1:4194305: error: syntax error\n"));
+    text.push_all(b" ")?;
+    let outcome = call_on(rt.alloc(), &["r20.c"], words, text.as_slice(), NO_FAULT)?;
+    assert!(rt; is_refused(&outcome, 5, "cparser: r20.c: longer than 4194304 bytes\n"));
+    Ok(())
+}
+
+// The unit that returns 0, which stands in so many pairs of parentheses.
+fn in_parentheses(alloc: Global, pairs: usize) -> Result<Bytes, AllocError> {
+    let mut text = Bytes::new(alloc);
+    text.push_all(b"int main(void){return ")?;
+    for _ in 0..pairs {
+        text.push_all(b"(")?;
+    }
+    text.push_all(b"0")?;
+    for _ in 0..pairs {
+        text.push_all(b")")?;
+    }
+    text.push_all(b";}")?;
+    Ok(text)
+}
+
+#[test]
+fn nested_parentheses(rt: HostRuntime) -> Result<(), Fail> {
+    let words: &[&str] = &["cparser", "--dump", "tree", "r25.c"];
+    let host = Host {
+        piece: 4096,
+        room: 1_048_576,
+        ..NO_FAULT
+    };
+    let text = in_parentheses(rt.alloc(), 495)?;
+    let outcome = call_on(rt.alloc(), &["r25.c"], words, text.as_slice(), host)?;
+    assert_eq!(rt; outcome.done.status, 0);
+    assert!(rt; outcome.done.fault.is_none() && outcome.done.report.is_none());
+    assert!(rt; outcome.out.bytes().ends_with(b" int 0\n".as_slice()));
+    assert_eq!(rt; outcome.err.bytes(), b"".as_slice());
+    let text = in_parentheses(rt.alloc(), 496)?;
+    let outcome = call_on(rt.alloc(), &["r25.c"], words, text.as_slice(), host)?;
+    assert!(rt; is_refused(&outcome, 5, "r25.c:1:519: error: nested too deep\n"));
+    assert!(rt; matches!(outcome.done.fault, Some(Fault::TooDeep { at: 518 })));
     Ok(())
 }
 
@@ -237,11 +339,16 @@ fn open_comment(rt: HostRuntime) -> Result<(), Fail> {
     let outcome = dump_tokens(rt.alloc(), "r14.c", text)?;
     assert!(rt; is_refused(&outcome, 1, "r14.c:1:27: error: no token here\n"));
     assert!(rt; matches!(outcome.done.fault, Some(Fault::Lexical { at: 26 })));
+    let outcome = dump_tree(rt.alloc(), "r14.c", text)?;
+    assert!(rt; is_refused(&outcome, 1, "r14.c:1:27: error: no token here\n"));
+    assert!(rt; matches!(outcome.done.fault, Some(Fault::Lexical { at: 26 })));
     Ok(())
 }
 
 #[test]
 fn faults_of_reading(rt: HostRuntime) -> Result<(), Fail> {
+    let outcome = dump_tree(rt.alloc(), "r29.c", b"int main(void){return 7}")?;
+    assert!(rt; is_refused(&outcome, 1, "r29.c:1:24: error: syntax error\n"));
     let outcome = dump_tokens(rt.alloc(), "r29.c", b"int x=2147483648;")?;
     assert!(rt; is_refused(&outcome, 1, "r29.c:1:7: error: no token here\n"));
     Ok(())
@@ -250,7 +357,7 @@ fn faults_of_reading(rt: HostRuntime) -> Result<(), Fail> {
 // Words that are no job give the usage line, and read no file: the first read is still to come.
 #[test]
 fn usage(rt: HostRuntime) -> Result<(), Fail> {
-    let rows: [&[&str]; 28] = [
+    let rows: [&[&str]; 31] = [
         &[],
         &["cparser"],
         &["cparser", ""],
@@ -275,10 +382,13 @@ fn usage(rt: HostRuntime) -> Result<(), Fail> {
         &["cparser", "--dump", "hi.c"],
         &["cparser", "--dump=", "hi.c"],
         &["cparser", "--du", "tokens", "hi.c"],
-        &["cparser", "--dump", "tree", "hi.c"],
+        &["cparser", "--du", "tree", "hi.c"],
+        &["cparser", "--dump", "trees", "hi.c"],
         &["cparser", "-S", "--dump", "tokens", "hi.c"],
+        &["cparser", "-S", "--dump", "tree", "hi.c"],
         &["cparser", "--dump", "-S", "hi.c"],
         &["cparser", "--dump", "tokens"],
+        &["cparser", "--dump", "tree"],
     ];
     let host = Host {
         read: 1,
@@ -297,7 +407,7 @@ fn usage(rt: HostRuntime) -> Result<(), Fail> {
 // Words that ask for a file, which is not there: the line names it.
 #[test]
 fn files_that_words_name(rt: HostRuntime) -> Result<(), Fail> {
-    let rows: [(&[&str], &str); 12] = [
+    let rows: [(&[&str], &str); 15] = [
         (&["cparser", "-"], "-"),
         (&["cparser", "f"], "f"),
         (&["cparser", "help"], "help"),
@@ -310,6 +420,9 @@ fn files_that_words_name(rt: HostRuntime) -> Result<(), Fail> {
         (&["cparser", "--dump", "tokens", "f"], "f"),
         (&["cparser", "--dump=tokens", "f"], "f"),
         (&["cparser", "f", "--dump", "tokens"], "f"),
+        (&["cparser", "--dump", "tree", "f"], "f"),
+        (&["cparser", "--dump=tree", "f"], "f"),
+        (&["cparser", "f", "--dump", "tree"], "f"),
     ];
     for (words, file) in rows {
         let outcome = call(rt.alloc(), words, HI, NO_FAULT)?;

@@ -86,6 +86,8 @@ fn stage_of(name: &str) -> Option<Stage>
 {
     if name == "tokens" {
         Some(Stage::Tokens)
+    } else if name == "tree" {
+        Some(Stage::Tree)
     } else {
         None
     }

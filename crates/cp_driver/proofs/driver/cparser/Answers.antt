@@ -1,7 +1,7 @@
 use Rattle.std.proofs.Common.{[], sym, ap, ◌∙◌, refl, option_map}
 use Rattle.cp_driver.specs.Jobs.{job_of}
 use Rattle.cp_driver.specs.Asked.{job_now}
-use Rattle.cp_driver.proofs.Makings.{accepts_first, made_by, compiled}
+use Rattle.cp_driver.proofs.Makings.{accepts_first, accepts_shown, made_by, compiled}
 use Rattle.cp_driver.proofs.Answering.{one_job, told_of, job_not_refused, answers_done, answers_fault, answers_no_job, answers_no_memory}
 use Rattle.cp_driver.proofs.driver.cparser.Goals as goal
 
@@ -28,6 +28,12 @@ returns-clause-compiles g c = λ file text bytes status job told le first quiet 
     let asked = ap job_of (sym c.as_slice.ensures) ∙ sym c.in-Ok-Some.ensures ∙ ap (option_map job_now) c.in-Ok-Some.field-0-is in
     absurd (job_not_refused _ _ _ _ _ _ _ _ _ _ _ text _ _ c.in-Err-do_job.fault (one_job _ _ _ asked job) c.in-Err-do_job.ensures.cause (told_of _ _ _ _ _ _ _ _ _ c.as_slice-in-Err-do_job.ensures c.refuse-in-Err-do_job.ensures.told)
     quiet memory told le (accepts_first text bytes status first))
+
+pub returns-clause-dumps : goal.returns-clause-dumps
+returns-clause-dumps g c = λ stage file bytes text job told le shows quiet memory.
+    let asked = ap job_of (sym c.as_slice.ensures) ∙ sym c.in-Ok-Some.ensures ∙ ap (option_map job_now) c.in-Ok-Some.field-0-is in
+    absurd (job_not_refused _ _ _ _ _ _ _ _ _ _ _ bytes _ _ c.in-Err-do_job.fault (one_job _ _ _ asked job) c.in-Err-do_job.ensures.cause (told_of _ _ _ _ _ _ _ _ _ c.as_slice-in-Err-do_job.ensures c.refuse-in-Err-do_job.ensures.told)
+    quiet memory told le (accepts_shown stage bytes text shows))
 
 pub returns-clause-answers : goal.returns-clause-answers
 returns-clause-answers g c =
