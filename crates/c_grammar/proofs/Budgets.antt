@@ -3,7 +3,7 @@ use Rattle.std.proofs.Common.{◌≡◌, ℕ, zero, suc, ◌+◌, ◌<◌, ◌�
 use Rattle.std.proofs.lemmas.Bool.Decides.{nat_tests}
 use Rattle.std.specs.Prelude.{max, nat_lt, if◌then◌else◌}
 use Rattle.c_lexer.specs.declared.token.Token.{Token}
-use Rattle.c_types.specs.Trees.{Tree, ◌then◌}
+use Rattle.c_syntax.specs.Trees.{Tree, ◌then◌}
 use Rattle.c_grammar.specs.Answers.{Answer, found, deep, and_then, fit}
 use Rattle.c_grammar.specs.Reading.{Reader, no_reader, read, below}
 

@@ -4,7 +4,7 @@ use Rattle.std.proofs.Common.{◌≡◌, ℕ, zero, suc, ◌<◌, Bool, true, fa
 use Rattle.std.specs.Prelude.{◌==◌, ◌||◌, ◌&&◌, not, nat_lt, codes}
 use Rattle.c_lexer.specs.declared.token.Punct.TheVariants.{LeftBracket, RightBracket, LeftParenthesis, RightParenthesis, LeftBrace, RightBrace, Dot, Arrow, PlusPlus, MinusMinus, Question, Colon, Semicolon, Comma}
 use Rattle.c_lexer.specs.declared.token.Token.{Token}
-use Rattle.c_types.specs.Trees.{Tree, Forest, one, height, forest_height}
+use Rattle.c_syntax.specs.Trees.{Tree, Forest, one, height, forest_height}
 use Rattle.c_grammar.specs.Vocabulary.{level_of, is_assignment}
 use Rattle.c_grammar.specs.Scopes.{Names, opened, after, after_parameter, add, entries_behind}
 use Rattle.c_grammar.specs.Derivation.{Part, Row, ends_open}

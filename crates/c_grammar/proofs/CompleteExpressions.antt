@@ -8,8 +8,8 @@ use Rattle.c_lexer.specs.declared.token.Punct.TheVariants.{LeftBracket, RightBra
 use Rattle.c_lexer.specs.declared.token.Token.{Token}
 use Rattle.c_lexer.specs.declared.token.TokenKind.{TokenKind}
 use Rattle.c_lexer.specs.declared.token.TokenKind.TheVariants as token
-use Rattle.c_types.specs.declared.kind.SynKind.TheVariants as kind
-use Rattle.c_types.specs.Trees.{Tree, Forest, none, ◌then◌, one, two, text_node, plain_node, int_node, char_node, string_node, height, forest_height}
+use Rattle.c_syntax.specs.declared.kind.SynKind.TheVariants as kind
+use Rattle.c_syntax.specs.Trees.{Tree, Forest, none, ◌then◌, one, two, text_node, plain_node, int_node, char_node, string_node, height, forest_height}
 use Rattle.c_grammar.specs.Vocabulary.{is_among, keywords, is_identifier, is_type_word, is_storage_word, Place, mark, word, integer, character, string}
 use Rattle.c_grammar.specs.Scopes.{Names, is_typedef_name, after}
 use Rattle.c_grammar.specs.Derivation.{Part, Row, Derives, Lists, Literals, start}

@@ -3,8 +3,8 @@ use Rattle.std.proofs.Common.{◌≡◌, ℕ, suc, Bool, true, false, List, ◌�
 use Rattle.std.specs.Prelude.{max, not, ◌&&◌, codes}
 use Rattle.c_lexer.specs.declared.token.Punct.TheVariants.{LeftParenthesis, RightParenthesis, LeftBrace, RightBrace, Semicolon}
 use Rattle.c_lexer.specs.declared.token.Token.{Token}
-use Rattle.c_types.specs.declared.kind.SynKind.TheVariants as kind
-use Rattle.c_types.specs.Trees.{Tree, Forest, none, one, two, three, plain_node, height, forest_height}
+use Rattle.c_syntax.specs.declared.kind.SynKind.TheVariants as kind
+use Rattle.c_syntax.specs.Trees.{Tree, Forest, none, one, two, three, plain_node, height, forest_height}
 use Rattle.c_grammar.specs.Vocabulary.{Place, mark, word}
 use Rattle.c_grammar.specs.Scopes.{Names, opened, after}
 use Rattle.c_grammar.specs.Derivation as grammar

@@ -6,7 +6,7 @@ use Rattle.c_lexer.specs.declared.token.Punct.TheVariants.{RightParenthesis, Rig
 use Rattle.c_lexer.specs.declared.token.Token.{Token}
 use Rattle.c_lexer.specs.declared.token.TokenKind.{TokenKind}
 use Rattle.c_lexer.specs.declared.token.TokenKind.TheVariants as token
-use Rattle.c_types.specs.Trees.{Tree, Forest, height}
+use Rattle.c_syntax.specs.Trees.{Tree, Forest, height}
 use Rattle.c_grammar.specs.Vocabulary.{Place}
 use Rattle.c_grammar.specs.Scopes.{Names}
 use Rattle.c_grammar.specs.Derivation.{Part}

@@ -3,8 +3,8 @@ use Rattle.std.proofs.Common.{◌≡◌, ℕ, suc, ◌≤◌, Bool, true, List, 
 use Rattle.std.specs.Prelude.{max, not, ◌&&◌, if◌then◌else◌}
 use Rattle.c_lexer.specs.declared.token.Punct.TheVariants.{LeftBracket, LeftParenthesis, LeftBrace, RightBrace, Semicolon, Equal}
 use Rattle.c_lexer.specs.declared.token.Token.{Token}
-use Rattle.c_types.specs.declared.kind.SynKind.TheVariants as kind
-use Rattle.c_types.specs.Trees.{Tree, Forest, ◌then◌, one, two, plain_node, height, forest_height}
+use Rattle.c_syntax.specs.declared.kind.SynKind.TheVariants as kind
+use Rattle.c_syntax.specs.Trees.{Tree, Forest, ◌then◌, one, two, plain_node, height, forest_height}
 use Rattle.c_grammar.specs.Vocabulary.{Place, mark}
 use Rattle.c_grammar.specs.Scopes.{Names, after, after_declarator, says_typedef}
 use Rattle.c_grammar.specs.Derivation as grammar

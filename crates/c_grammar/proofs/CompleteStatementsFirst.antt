@@ -8,7 +8,7 @@ use Rattle.c_lexer.specs.declared.token.Punct.TheVariants.{LeftParenthesis, Righ
 use Rattle.c_lexer.specs.declared.token.Token.{Token}
 use Rattle.c_lexer.specs.declared.token.TokenKind.{TokenKind}
 use Rattle.c_lexer.specs.declared.token.TokenKind.TheVariants as token
-use Rattle.c_types.specs.Trees.{Tree}
+use Rattle.c_syntax.specs.Trees.{Tree}
 use Rattle.c_grammar.specs.Vocabulary.{is_identifier, is_type_word, is_storage_word, is_unary_operator, Place, word}
 use Rattle.c_grammar.specs.Scopes.{Names, is_typedef_name}
 use Rattle.c_grammar.specs.Derivation as grammar

@@ -3,8 +3,8 @@ use Rattle.std.proofs.Common.{◌≡◌, ℕ, zero, suc, false, List, ◌∷◌,
 use Rattle.std.specs.Prelude.{max, ◌||◌, codes, if◌then◌else◌}
 use Rattle.c_lexer.specs.declared.token.Punct.TheVariants.{LeftParenthesis, RightParenthesis, Semicolon}
 use Rattle.c_lexer.specs.declared.token.Token.{Token}
-use Rattle.c_types.specs.declared.kind.SynKind.TheVariants as kind
-use Rattle.c_types.specs.Trees.{Tree, none, ◌then◌, three, plain_node, height}
+use Rattle.c_syntax.specs.declared.kind.SynKind.TheVariants as kind
+use Rattle.c_syntax.specs.Trees.{Tree, none, ◌then◌, three, plain_node, height}
 use Rattle.c_grammar.specs.Vocabulary.{Place, mark, word, start_of}
 use Rattle.c_grammar.specs.Scopes.{Names, opened, after}
 use Rattle.c_grammar.specs.Derivation as grammar

@@ -1,7 +1,7 @@
 -- A part has no more tokens behind it than before it, and declarations, statements and externals have fewer.
 use Rattle.std.proofs.Common.{◌≤◌, ◌<◌, List, length, length-append, ap, arith}
 use Rattle.c_lexer.specs.declared.token.Token.{Token}
-use Rattle.c_types.specs.Trees.{Tree, Forest}
+use Rattle.c_syntax.specs.Trees.{Tree, Forest}
 use Rattle.c_grammar.specs.Scopes.{Names}
 use Rattle.c_grammar.specs.Derivation as grammar
 use Rattle.c_grammar.specs.Derivation.{Part, Row, Derives, Lists}

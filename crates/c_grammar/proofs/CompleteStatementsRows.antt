@@ -3,7 +3,7 @@ use Rattle.std.proofs.Common.{◌≡◌, ℕ, zero, suc, ◌≤◌, Bool, true, 
 use Rattle.std.specs.Prelude.{not, ◌||◌, ◌&&◌, codes, if◌then◌else◌}
 use Rattle.c_lexer.specs.declared.token.Punct.TheVariants.{RightParenthesis, RightBrace, Semicolon, Comma}
 use Rattle.c_lexer.specs.declared.token.Token.{Token}
-use Rattle.c_types.specs.Trees.{Tree, Forest, none, ◌then◌, one, height, forest_height}
+use Rattle.c_syntax.specs.Trees.{Tree, Forest, none, ◌then◌, one, height, forest_height}
 use Rattle.c_grammar.specs.Vocabulary.{Place, mark}
 use Rattle.c_grammar.specs.Scopes.{Names, after, add, entries_behind}
 use Rattle.c_grammar.specs.Derivation as grammar

@@ -2,9 +2,9 @@
 use Rattle.std.proofs.Common.{◌≡◌, ℕ, zero, suc, Bool, true, false, not, ◌&&◌, max, List, ◌∷◌, refl, sym, ap, true≢false, if◌then◌else◌, arith}
 use Rattle.c_lexer.specs.declared.token.Punct.TheVariants.{LeftBracket, RightBracket, LeftParenthesis, RightParenthesis, Star}
 use Rattle.c_lexer.specs.declared.token.Token.{Token}
-use Rattle.c_types.specs.declared.kind.SynKind.{SynKind}
-use Rattle.c_types.specs.declared.kind.SynKind.TheVariants as kind
-use Rattle.c_types.specs.Trees.{Tree, Forest, none, ◌then◌, one, text_node, plain_node, height, forest_height}
+use Rattle.c_syntax.specs.declared.kind.SynKind.{SynKind}
+use Rattle.c_syntax.specs.declared.kind.SynKind.TheVariants as kind
+use Rattle.c_syntax.specs.Trees.{Tree, Forest, none, ◌then◌, one, text_node, plain_node, height, forest_height}
 use Rattle.c_grammar.specs.Vocabulary.{is_identifier, Place, mark, word}
 use Rattle.c_grammar.specs.Scopes.{Names, after}
 use Rattle.c_grammar.specs.Derivation.{start, no_name}

@@ -4,7 +4,7 @@ use Rattle.std.proofs.lemmas.Slice.Eq.{bytes_eq-Decides}
 use Rattle.c_lexer.specs.declared.token.Punct.{Punct}
 use Rattle.c_lexer.specs.declared.token.Punct.TheVariants.{RightBrace}
 use Rattle.c_lexer.specs.declared.token.Token.{Token}
-use Rattle.c_types.specs.Trees.{Tree, Forest}
+use Rattle.c_syntax.specs.Trees.{Tree, Forest}
 use Rattle.c_grammar.specs.Vocabulary.{is_identifier, is_type_word, is_storage_word}
 use Rattle.c_grammar.specs.Scopes.{Names}
 use Rattle.c_grammar.specs.Fronts.{IsFront}

@@ -1,9 +1,9 @@
 -- The cases of parameters and type names.
 use Rattle.std.proofs.Common.{ℕ, suc, max, List, arith}
 use Rattle.c_lexer.specs.declared.token.Token.{Token}
-use Rattle.c_types.specs.declared.kind.SynKind.{SynKind}
-use Rattle.c_types.specs.declared.kind.SynKind.TheVariants as kind
-use Rattle.c_types.specs.Trees.{Tree, two, plain_node, height}
+use Rattle.c_syntax.specs.declared.kind.SynKind.{SynKind}
+use Rattle.c_syntax.specs.declared.kind.SynKind.TheVariants as kind
+use Rattle.c_syntax.specs.Trees.{Tree, two, plain_node, height}
 use Rattle.c_grammar.specs.Scopes.{Names, after}
 use Rattle.c_grammar.specs.Derivation as rule
 use Rattle.c_grammar.specs.Derivation.{Derives, start, no_name}

@@ -4,8 +4,8 @@ use Rattle.c_lexer.specs.declared.token.Punct.TheVariants.{RightBracket, RightPa
 use Rattle.c_lexer.specs.declared.token.Token.{Token}
 use Rattle.c_lexer.specs.declared.token.TokenKind.{TokenKind}
 use Rattle.c_lexer.specs.declared.token.TokenKind.TheVariants as token
-use Rattle.c_types.specs.declared.kind.SynKind.TheVariants as kind
-use Rattle.c_types.specs.Trees.{Tree, Forest, none, ◌then◌, one, text_node, plain_node, height, forest_height}
+use Rattle.c_syntax.specs.declared.kind.SynKind.TheVariants as kind
+use Rattle.c_syntax.specs.Trees.{Tree, Forest, none, ◌then◌, one, text_node, plain_node, height, forest_height}
 use Rattle.c_grammar.specs.Vocabulary.{is_identifier, Place, mark, word}
 use Rattle.c_grammar.specs.Scopes.{Names, after, after_parameter, says_type}
 use Rattle.c_grammar.specs.Derivation as rule

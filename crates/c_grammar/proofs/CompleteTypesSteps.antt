@@ -4,7 +4,7 @@ use Rattle.std.proofs.Common.{◌≡◌, ℕ, zero, suc, ◌<◌, ◌≤◌, ◌
 use Rattle.std.specs.Prelude.{max, if◌then◌else◌}
 use Rattle.c_lexer.specs.declared.token.Punct.TheVariants.{Comma, RightBrace}
 use Rattle.c_lexer.specs.declared.token.Token.{Token}
-use Rattle.c_types.specs.Trees.{Tree, Forest, ◌then◌, one, height, forest_height}
+use Rattle.c_syntax.specs.Trees.{Tree, Forest, ◌then◌, one, height, forest_height}
 use Rattle.c_grammar.specs.Vocabulary.{Place, mark}
 use Rattle.c_grammar.specs.Scopes.{Names, after}
 use Rattle.c_grammar.specs.Answers.{Answer, found, and_then, fit, ahead, ahead_by}

@@ -5,8 +5,8 @@ use Rattle.c_lexer.specs.declared.token.Punct.TheVariants.{RightParenthesis, Lef
 use Rattle.c_lexer.specs.declared.token.Token.{Token}
 use Rattle.c_lexer.specs.declared.token.TokenKind.{TokenKind}
 use Rattle.c_lexer.specs.declared.token.TokenKind.TheVariants as token
-use Rattle.c_types.specs.declared.kind.SynKind.TheVariants as kind
-use Rattle.c_types.specs.Trees.{Tree, Forest, none, one, two, text_node, plain_node, forest_height}
+use Rattle.c_syntax.specs.declared.kind.SynKind.TheVariants as kind
+use Rattle.c_syntax.specs.Trees.{Tree, Forest, none, one, two, text_node, plain_node, forest_height}
 use Rattle.c_grammar.specs.Vocabulary.{Place, word, is_identifier}
 use Rattle.c_grammar.specs.Scopes.{Names, after_parameter}
 use Rattle.c_grammar.specs.Derivation as rule

@@ -1,7 +1,7 @@
 -- Every derivation is read: the cases put together.
 use Rattle.std.proofs.Common.{List}
 use Rattle.c_lexer.specs.declared.token.Token.{Token}
-use Rattle.c_types.specs.Trees.{Tree, Forest}
+use Rattle.c_syntax.specs.Trees.{Tree, Forest}
 use Rattle.c_grammar.specs.Scopes.{Names}
 use Rattle.c_grammar.specs.Derivation as rule
 use Rattle.c_grammar.specs.Derivation.{Part, Row, Derives, Lists}

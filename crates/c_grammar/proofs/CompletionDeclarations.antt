@@ -2,7 +2,7 @@
 use Rattle.std.proofs.Common.{true≢false, ℕ, Bool, List, [], ◌∷◌, refl}
 use Rattle.c_lexer.specs.declared.token.Punct.TheVariants.{LeftBrace, RightBrace, Semicolon, Equal}
 use Rattle.c_lexer.specs.declared.token.Token.{Token}
-use Rattle.c_types.specs.Trees.{Tree, one}
+use Rattle.c_syntax.specs.Trees.{Tree, one}
 use Rattle.c_grammar.specs.Vocabulary.{mark}
 use Rattle.c_grammar.specs.Scopes.{Names, says_typedef, after, in_body}
 use Rattle.c_grammar.specs.Derivation as rule

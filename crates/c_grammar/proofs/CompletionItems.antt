@@ -3,7 +3,7 @@
 use Rattle.std.proofs.Common.{ℕ, zero, suc, Bool, false, List, [], ◌∷◌, length, if◌then◌else◌}
 use Rattle.c_lexer.specs.declared.token.Punct.TheVariants.{RightBrace}
 use Rattle.c_lexer.specs.declared.token.Token.{Token}
-use Rattle.c_types.specs.Trees.{Tree, Forest, ◌then◌, one}
+use Rattle.c_syntax.specs.Trees.{Tree, Forest, ◌then◌, one}
 use Rattle.c_grammar.specs.Scopes.{Names, add, after, entries_behind}
 use Rattle.c_grammar.specs.Derivation as rule
 use Rattle.c_grammar.specs.Derivation.{Derives, Lists, start}

@@ -3,7 +3,7 @@
 use Rattle.std.proofs.Common.{◌≡◌, ℕ, zero, suc, ◌≤◌, true, false, List, [], ◌∷◌, ◌++◌, length, refl, arith, true≢false}
 use Rattle.c_lexer.specs.declared.token.Punct.TheVariants.{Star, Semicolon, Equal}
 use Rattle.c_lexer.specs.declared.token.Token.{Token}
-use Rattle.c_types.specs.Trees.{Tree, height}
+use Rattle.c_syntax.specs.Trees.{Tree, height}
 use Rattle.c_grammar.specs.Vocabulary.{Place, word, is_identifier}
 use Rattle.c_grammar.specs.Scopes.{Names, after, after_parameter}
 use Rattle.c_grammar.specs.Derivation as rule

@@ -2,7 +2,7 @@
 use Rattle.std.proofs.Common.{ℕ, suc, Bool, List, [], ◌∷◌, refl, length}
 use Rattle.c_lexer.specs.declared.token.Punct.TheVariants.{Semicolon, Equal, Comma}
 use Rattle.c_lexer.specs.declared.token.Token.{Token}
-use Rattle.c_types.specs.Trees.{Tree, one}
+use Rattle.c_syntax.specs.Trees.{Tree, one}
 use Rattle.c_grammar.specs.Scopes.{Names, add, entries_behind, after_declarator}
 use Rattle.c_grammar.specs.Derivation as rule
 use Rattle.c_grammar.specs.Derivation.{Lists}

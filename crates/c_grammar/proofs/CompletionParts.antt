@@ -7,8 +7,8 @@ use Rattle.c_lexer.specs.declared.token.Punct.TheVariants.{Semicolon}
 use Rattle.c_lexer.specs.declared.token.Token.{Token}
 use Rattle.c_lexer.specs.declared.token.TokenKind.{TokenKind}
 use Rattle.c_lexer.specs.declared.token.TokenKind.TheVariants as token
-use Rattle.c_types.specs.declared.kind.SynKind.TheVariants as kind
-use Rattle.c_types.specs.Trees.{Tree, Forest, none, one, plain_node, int_node, text_node}
+use Rattle.c_syntax.specs.declared.kind.SynKind.TheVariants as kind
+use Rattle.c_syntax.specs.Trees.{Tree, Forest, none, one, plain_node, int_node, text_node}
 use Rattle.c_grammar.specs.Vocabulary.{Place, mark, word, integer}
 use Rattle.c_grammar.specs.Scopes.{Names, is_typedef_name}
 use Rattle.c_grammar.specs.Derivation as rule

@@ -2,7 +2,7 @@
 use Rattle.std.proofs.Common.{ℕ, ◌≤◌, false, ◌&&◌, not, List, [], ◌∷◌, refl, codes, bytes_eq, ◌++◌}
 use Rattle.c_lexer.specs.declared.token.Punct.TheVariants.{LeftParenthesis, RightParenthesis, LeftBrace, RightBrace, Semicolon}
 use Rattle.c_lexer.specs.declared.token.Token.{Token}
-use Rattle.c_types.specs.Trees.{Tree}
+use Rattle.c_syntax.specs.Trees.{Tree}
 use Rattle.c_grammar.specs.Vocabulary.{Place, mark, word}
 use Rattle.c_grammar.specs.Scopes.{Names, opened, after}
 use Rattle.c_grammar.specs.Derivation as rule

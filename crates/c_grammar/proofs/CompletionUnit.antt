@@ -2,7 +2,7 @@
 -- lower one does.
 use Rattle.std.proofs.Common.{◌≡◌, ℕ, zero, suc, ◌≤◌, List, [], ◌∷◌, ◌++◌, refl, arith}
 use Rattle.c_lexer.specs.declared.token.Token.{Token}
-use Rattle.c_types.specs.Trees.{Tree, Forest, forest_height}
+use Rattle.c_syntax.specs.Trees.{Tree, Forest, forest_height}
 use Rattle.c_grammar.specs.Scopes.{Names, opened}
 use Rattle.c_grammar.specs.Derivation as rule
 use Rattle.c_grammar.specs.Derivation.{Derives, Lists, IsTreeOf}

@@ -1,7 +1,7 @@
 -- What a reading says of the lists that begin as it has read.
 use Rattle.std.proofs.Common.{◌≡◌, ℕ, ◌<◌, ◌≤◌, ◌⊎◌, inl, inr, Bool, true, false, List, ◌∷◌, ◌++◌, sym, ap, ◌∙◌, true≢false}
 use Rattle.c_lexer.specs.declared.token.Token.{Token}
-use Rattle.c_types.specs.Trees.{Tree, height}
+use Rattle.c_syntax.specs.Trees.{Tree, height}
 use Rattle.c_grammar.specs.Derivation.{IsTreeOf}
 use Rattle.c_grammar.specs.Answers.{Answer, found, wrong, deep}
 use Rattle.c_grammar.specs.Reading.{read_unit}

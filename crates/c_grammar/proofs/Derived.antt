@@ -2,8 +2,8 @@
 use Rattle.std.specs.Prelude.{refl, [], ◌∷◌, codes}
 use Rattle.c_lexer.specs.declared.token.IntType.TheVariants as type
 use Rattle.c_lexer.specs.declared.token.Punct.TheVariants.{LeftBracket, RightBracket, LeftParenthesis, RightParenthesis, LeftBrace, RightBrace, PlusPlus, Star, Plus, Minus, PlusEqual, Question, Colon, Semicolon, Equal, Comma}
-use Rattle.c_types.specs.declared.kind.SynKind.TheVariants as kind
-use Rattle.c_types.specs.Trees.{none, ◌then◌, one, two, three, text_node, plain_node, int_node, string_node}
+use Rattle.c_syntax.specs.declared.kind.SynKind.TheVariants as kind
+use Rattle.c_syntax.specs.Trees.{none, ◌then◌, one, two, three, text_node, plain_node, int_node, string_node}
 use Rattle.c_grammar.specs.Derivation as grammar
 use Rattle.c_grammar.specs.Derivation.{Derives, IsTreeOf}
 use Rattle.c_grammar.proofs.Lifts.{m, w, i, s, leaf, no_typedef, with_t, int_alone, typedef_alone, typedef_int, cast_as, unary_as, postfix_as, primary_as, name_as_cast, name_as, raise, as_assignment, as_expression}

@@ -2,8 +2,8 @@
 use Rattle.std.proofs.Common.{ℕ, ◌||◌, not, List, ◌∷◌, ap, ◌∙◌, subst}
 use Rattle.c_lexer.specs.declared.token.Token.{Token}
 use Rattle.c_lexer.specs.declared.token.Punct.TheVariants.{Star}
-use Rattle.c_types.specs.declared.kind.SynKind.TheVariants as kind
-use Rattle.c_types.specs.Trees.{Tree, Forest, none, one, two, plain_node, string_node}
+use Rattle.c_syntax.specs.declared.kind.SynKind.TheVariants as kind
+use Rattle.c_syntax.specs.Trees.{Tree, Forest, none, one, two, plain_node, string_node}
 use Rattle.c_grammar.specs.Vocabulary.{Place, mark, string}
 use Rattle.c_grammar.specs.Scopes.{Names, says_type, after}
 use Rattle.c_grammar.specs.Fronts.{IsFront}

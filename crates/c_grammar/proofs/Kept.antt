@@ -1,7 +1,7 @@
 -- A reading depends on the tokens before its place and, unless it is too deep, on the token there.
 use Rattle.std.proofs.Common.{◌≡◌, ℕ, zero, suc, ◌≤◌, false, List, [], ◌∷◌, ◌++◌, length, length-append, if◌then◌else◌, refl, sym, ap, ◌∙◌, arith}
 use Rattle.c_lexer.specs.declared.token.Token.{Token}
-use Rattle.c_types.specs.Trees.{Forest, ◌then◌, forest_height}
+use Rattle.c_syntax.specs.Trees.{Forest, ◌then◌, forest_height}
 use Rattle.c_grammar.specs.Scopes.{Names, opened}
 use Rattle.c_grammar.specs.Derivation as rule
 use Rattle.c_grammar.specs.Derivation.{Lists}

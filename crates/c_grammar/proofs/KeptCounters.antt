@@ -1,7 +1,7 @@
 -- A row is read in the same way by every counter that is more than the tokens.
 use Rattle.std.proofs.Common.{◌≡◌, ℕ, ◌<◌, ◌≤◌, Bool, true, false, List, [], ◌∷◌, length, length-append, if◌then◌else◌, refl, sym, ap, ◌∙◌, arith}
 use Rattle.c_lexer.specs.declared.token.Token.{Token}
-use Rattle.c_types.specs.Trees.{Tree, ◌then◌}
+use Rattle.c_syntax.specs.Trees.{Tree, ◌then◌}
 use Rattle.c_grammar.specs.Scopes.{Names}
 use Rattle.c_grammar.specs.Derivation as rule
 use Rattle.c_grammar.specs.Derivation.{Derives}

@@ -2,8 +2,8 @@
 use Rattle.std.proofs.Common.{◌≡◌, ℕ, ◌<◌, ◌≤◌, ◌⊎◌, inl, inr, Bool, false, List, [], ◌∷◌, refl, arith, true≢false}
 use Rattle.c_lexer.specs.declared.token.Punct.TheVariants.{LeftBrace, RightBrace, Semicolon, Equal, Comma}
 use Rattle.c_lexer.specs.declared.token.Token.{Token}
-use Rattle.c_types.specs.declared.kind.SynKind.TheVariants as kind
-use Rattle.c_types.specs.Trees.{Tree, one, three, plain_node}
+use Rattle.c_syntax.specs.declared.kind.SynKind.TheVariants as kind
+use Rattle.c_syntax.specs.Trees.{Tree, one, three, plain_node}
 use Rattle.c_grammar.specs.Scopes.{Names, says_typedef, after, in_body}
 use Rattle.c_grammar.specs.Derivation.{start}
 use Rattle.c_grammar.specs.Answers.{found, and_then, fit, Ahead, ahead, ahead_by}

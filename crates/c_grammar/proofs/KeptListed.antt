@@ -2,7 +2,7 @@
 use Rattle.std.proofs.Common.{◌≡◌, ℕ, zero, suc, ◌<◌, true, List, length, if◌then◌else◌, ap, arith}
 use Rattle.c_lexer.specs.declared.token.Punct.TheVariants.{RightBrace, Comma}
 use Rattle.c_lexer.specs.declared.token.Token.{Token}
-use Rattle.c_types.specs.Trees.{Tree, Forest, ◌then◌, one}
+use Rattle.c_syntax.specs.Trees.{Tree, Forest, ◌then◌, one}
 use Rattle.c_grammar.specs.Scopes.{Names, after}
 use Rattle.c_grammar.specs.Answers.{Answer, found, and_then}
 use Rattle.c_grammar.specs.Reading.{Reader, begins_with_mark, behind_one, listed, listed_in_braces}

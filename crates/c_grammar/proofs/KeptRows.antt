@@ -2,7 +2,7 @@
 use Rattle.std.proofs.Common.{◌≡◌, ℕ, zero, suc, ◌<◌, ◌≤◌, Bool, true, false, List, [], ◌∷◌, length, if◌then◌else◌, refl, ap, arith, codes}
 use Rattle.c_lexer.specs.declared.token.Punct.TheVariants.{RightBracket, RightParenthesis, RightBrace, Comma}
 use Rattle.c_lexer.specs.declared.token.Token.{Token}
-use Rattle.c_types.specs.Trees.{Tree, Forest, none, ◌then◌, one}
+use Rattle.c_syntax.specs.Trees.{Tree, Forest, none, ◌then◌, one}
 use Rattle.c_grammar.specs.Vocabulary.{Place, word}
 use Rattle.c_grammar.specs.Scopes.{Names, add, after, after_parameter, entries_behind}
 use Rattle.c_grammar.specs.Answers.{Answer, found, and_then}

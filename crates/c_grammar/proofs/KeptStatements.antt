@@ -2,8 +2,8 @@
 use Rattle.std.proofs.Common.{◌≡◌, ℕ, ◌≤◌, false, ◌&&◌, ◌||◌, not, List, [], ◌∷◌, if◌then◌else◌, refl, ap, ◌∙◌, arith, codes, bytes_eq}
 use Rattle.c_lexer.specs.declared.token.Punct.TheVariants.{LeftParenthesis, RightParenthesis, LeftBrace, RightBrace, Semicolon}
 use Rattle.c_lexer.specs.declared.token.Token.{Token}
-use Rattle.c_types.specs.declared.kind.SynKind.TheVariants as kind
-use Rattle.c_types.specs.Trees.{Tree, none, ◌then◌, two, three, plain_node}
+use Rattle.c_syntax.specs.declared.kind.SynKind.TheVariants as kind
+use Rattle.c_syntax.specs.Trees.{Tree, none, ◌then◌, two, three, plain_node}
 use Rattle.c_grammar.specs.Vocabulary.{Place, word, start_of}
 use Rattle.c_grammar.specs.Scopes.{Names, opened, after}
 use Rattle.c_grammar.specs.Derivation.{ends_open}

@@ -2,9 +2,9 @@
 use Rattle.std.proofs.Common.{◌≡◌, ℕ, zero, suc, ◌<◌, ◌≤◌, Bool, true, false, ◌&&◌, ◌||◌, not, List, [], ◌∷◌, length, if◌then◌else◌, refl, sym, ap, ◌∙◌, arith, codes, bytes_eq, true≢false}
 use Rattle.c_lexer.specs.declared.token.Punct.TheVariants.{LeftBrace, RightBrace}
 use Rattle.c_lexer.specs.declared.token.Token.{Token}
-use Rattle.c_types.specs.declared.kind.SynKind.{SynKind}
-use Rattle.c_types.specs.declared.kind.SynKind.TheVariants as kind
-use Rattle.c_types.specs.Trees.{Tree, Forest, ◌then◌, one}
+use Rattle.c_syntax.specs.declared.kind.SynKind.{SynKind}
+use Rattle.c_syntax.specs.declared.kind.SynKind.TheVariants as kind
+use Rattle.c_syntax.specs.Trees.{Tree, Forest, ◌then◌, one}
 use Rattle.c_grammar.specs.Vocabulary.{Place, word, is_identifier, is_type_word, is_storage_word}
 use Rattle.c_grammar.specs.Scopes.{Names, is_typedef_name, says_type, after}
 use Rattle.c_grammar.specs.Answers.{Answer, found, and_then, Ahead, ahead, ahead_by}

@@ -5,9 +5,9 @@ use Rattle.c_lexer.specs.declared.token.IntType.TheVariants as type
 use Rattle.c_lexer.specs.declared.token.Punct.{Punct}
 use Rattle.c_lexer.specs.declared.token.Punct.TheVariants.{Semicolon}
 use Rattle.c_lexer.specs.declared.token.Token.{Token}
-use Rattle.c_types.specs.declared.kind.SynKind.{SynKind}
-use Rattle.c_types.specs.declared.kind.SynKind.TheVariants as kind
-use Rattle.c_types.specs.Trees.{Tree, none, one, two, text_node, plain_node}
+use Rattle.c_syntax.specs.declared.kind.SynKind.{SynKind}
+use Rattle.c_syntax.specs.declared.kind.SynKind.TheVariants as kind
+use Rattle.c_syntax.specs.Trees.{Tree, none, one, two, text_node, plain_node}
 use Rattle.c_grammar.specs.Vocabulary.{is_identifier, Place, mark, word, integer, string}
 use Rattle.c_grammar.specs.Scopes.{Names, opened, is_typedef_name, says_type, after, entry}
 use Rattle.c_grammar.specs.Derivation.{Derives, binary, cast, unary, postfix, primary, assignment, expression, specifiers, tightest, tighter, uncast, plain, primary_of, variable, unconditional, unassigned, single_expression, begins_with_typedef_name, specs, last_specifier, more_specifiers, specifier_word, typedef_name, declaration, full_declaration, last_init_declarator, uninitialized, direct, declared_name}

@@ -5,7 +5,7 @@ use Rattle.c_lexer.specs.declared.token.Token.{Token}
 use Rattle.c_lexer.specs.declared.token.Punct.TheVariants.{LeftBracket, LeftParenthesis, RightParenthesis, LeftBrace, RightBrace, Plus, Question, Colon, Semicolon, Equal, Comma}
 use Rattle.c_grammar.specs.Answers.{wrong, and_then, fit, ahead_by, ahead, expect_by, expect, expect_word_by, expect_word, expect_identifier_by, expect_identifier}
 use Rattle.c_grammar.specs.Reading.{joined_by, joined_behind, begins_specifier_by, is_unary_by, is_named_by, is_absent_by, has_name, needs_name, behind_const_by, behind_const, lower, if_any, after_any, primary_by, suffix_by, suffixes, postfix_in, size_in, unary_by, unary_in, cast_by, cast_in, operand_by, operands, binary_in, choice_by, conditional_in, assigned_by, assignment_in, comma_by, commas, expression_in, body_in, tagged_by, tag_by, specifier_by, specifier_in, specifier_list_in, specifiers_in, specs_first, takes_in, declared_suffix_by, declared_suffixes, undeclared_in, declared_by, declared_in, parameter_in, type_name_in, member_in, value_by, enumerator_by, enumerator_in, initializer_by, initializer_in, initialized_by, init_declarator_in, init_behind_by, init_behind_in, declaration_behind, declaration_in, declaration_from, function_by, external_in, body_by, optional_expression_in, in_parentheses_then, if_in, while_in, do_in, for_behind, for_in, return_in, expression_statement_in, keyword_by, statement_by, statement_in, goal_in, listed, listed_in_braces, members_in, items_in, externals_by, externals_in, arguments_in, length_in, declarators_behind, rows_in, level, read, read_unit}
-use Rattle.c_types.specs.Trees.{Tree}
+use Rattle.c_syntax.specs.Trees.{Tree}
 use Rattle.c_grammar.specs.Derivation.{IsTreeOf}
 use Rattle.c_grammar.proofs.Lifts.{m, w, i}
 use Rattle.c_grammar.proofs.OneTree.{wrong_has_none}

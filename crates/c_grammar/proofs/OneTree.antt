@@ -1,7 +1,7 @@
 -- Units that are derived are read, and so a token list has one tree at most.
 use Rattle.std.proofs.Common.{◌≡◌, ℕ, ◌+◌, ◌<◌, ◌≤◌, ◌⊎◌, inl, inr, Bool, true, false, List, [], sym, ap, ◌∙◌, arith, true≢false}
 use Rattle.c_lexer.specs.declared.token.Token.{Token}
-use Rattle.c_types.specs.Trees.{Tree, height}
+use Rattle.c_syntax.specs.Trees.{Tree, height}
 use Rattle.c_grammar.specs.Derivation as rule
 use Rattle.c_grammar.specs.Derivation.{IsTreeOf}
 use Rattle.c_grammar.specs.Answers.{Answer, found, wrong, deep}

@@ -2,7 +2,7 @@
 use Rattle.std.proofs.Common.{◌≡◌, ℕ, zero, suc, ◌≤◌, Bool, false, List, [], ◌∷◌, length, if◌then◌else◌, arith}
 use Rattle.c_lexer.specs.declared.token.Punct.TheVariants.{RightBracket, RightParenthesis, RightBrace, Comma}
 use Rattle.c_lexer.specs.declared.token.Token.{Token}
-use Rattle.c_types.specs.Trees.{Tree, Forest, ◌then◌, one, height, forest_height}
+use Rattle.c_syntax.specs.Trees.{Tree, Forest, ◌then◌, one, height, forest_height}
 use Rattle.c_grammar.specs.Vocabulary.{Place, mark}
 use Rattle.c_grammar.specs.Scopes.{Names, opened, add, after, after_parameter, entries_behind}
 use Rattle.c_grammar.specs.Derivation as rule

@@ -4,10 +4,10 @@ use Rattle.c_lexer.specs.declared.token.Punct.TheVariants.{RightParenthesis}
 use Rattle.c_lexer.specs.declared.token.Token.{Token}
 use Rattle.c_lexer.specs.declared.token.TokenKind.{TokenKind}
 use Rattle.c_lexer.specs.declared.token.TokenKind.TheVariants as token
-use Rattle.c_types.specs.declared.kind.SynKind.{SynKind}
-use Rattle.c_types.specs.declared.kind.SynKind.TheVariants as kind
-use Rattle.c_types.specs.declared.tree.Label.{Label}
-use Rattle.c_types.specs.Trees.{Tree, Forest, none, tree, ◌then◌, one, text_node, plain_node, forest_height}
+use Rattle.c_syntax.specs.declared.kind.SynKind.{SynKind}
+use Rattle.c_syntax.specs.declared.kind.SynKind.TheVariants as kind
+use Rattle.c_syntax.specs.declared.label.Label.{Label}
+use Rattle.c_syntax.specs.Trees.{Tree, Forest, none, tree, ◌then◌, one, text_node, plain_node, forest_height}
 use Rattle.c_grammar.specs.Vocabulary.{Place, mark, word, string}
 use Rattle.c_grammar.specs.Scopes.{Names}
 use Rattle.c_grammar.specs.Derivation as rule

@@ -2,8 +2,8 @@
 use Rattle.std.proofs.Common.{◌≡◌, ℕ, suc, ◌<◌, ◌≤◌, Bool, false, ◌&&◌, ◌||◌, not, List, ◌∷◌, if◌then◌else◌, ap, ◌∙◌, arith, codes, bytes_eq}
 use Rattle.c_lexer.specs.declared.token.Punct.TheVariants.{LeftParenthesis, RightParenthesis, LeftBrace, RightBrace, Semicolon, Equal, Comma}
 use Rattle.c_lexer.specs.declared.token.Token.{Token}
-use Rattle.c_types.specs.declared.kind.SynKind.TheVariants as kind
-use Rattle.c_types.specs.Trees.{Tree, ◌then◌, one, three, plain_node, height}
+use Rattle.c_syntax.specs.declared.kind.SynKind.TheVariants as kind
+use Rattle.c_syntax.specs.Trees.{Tree, ◌then◌, one, three, plain_node, height}
 use Rattle.c_grammar.specs.Vocabulary.{Place, mark, word}
 use Rattle.c_grammar.specs.Scopes.{Names, opened, says_typedef, after, in_body}
 use Rattle.c_grammar.specs.Derivation as rule

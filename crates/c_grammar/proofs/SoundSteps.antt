@@ -10,7 +10,7 @@ use Rattle.c_lexer.specs.declared.token.TokenKind.{TokenKind}
 use Rattle.c_lexer.specs.declared.token.TokenKind.TheVariants as token
 use Rattle.c_lexer.specs.Dump.{mark_text}
 use Rattle.c_lexer.specs.Marks.{mark_of}
-use Rattle.c_types.specs.Trees.{Tree, Forest, height, forest_height}
+use Rattle.c_syntax.specs.Trees.{Tree, Forest, height, forest_height}
 use Rattle.c_grammar.specs.Vocabulary.{Place, mark, word, integer, character, string, is_identifier}
 use Rattle.c_grammar.specs.Answers.{Answer, found, wrong, deep, and_then, fit, Ahead, nothing_ahead, mark_ahead, word_ahead, integer_ahead, character_ahead, string_ahead, ahead, ahead_by, same_mark, expect, expect_by, expect_word, expect_word_by, expect_identifier, expect_identifier_by}
 use Rattle.c_grammar.specs.Reading.{begins_with_mark, begins_with_mark_by, begins_with_word, begins_with_word_by, behind_one, lower, if_any}

@@ -4,9 +4,9 @@ use Rattle.c_lexer.specs.declared.token.Punct.TheVariants.{LeftBrace, RightBrace
 use Rattle.c_lexer.specs.declared.token.Token.{Token}
 use Rattle.c_lexer.specs.declared.token.TokenKind.{TokenKind}
 use Rattle.c_lexer.specs.declared.token.TokenKind.TheVariants as token
-use Rattle.c_types.specs.declared.kind.SynKind.{SynKind}
-use Rattle.c_types.specs.declared.kind.SynKind.TheVariants as kind
-use Rattle.c_types.specs.Trees.{Tree, Forest, none, text_node}
+use Rattle.c_syntax.specs.declared.kind.SynKind.{SynKind}
+use Rattle.c_syntax.specs.declared.kind.SynKind.TheVariants as kind
+use Rattle.c_syntax.specs.Trees.{Tree, Forest, none, text_node}
 use Rattle.c_grammar.specs.Vocabulary.{Place, mark, word, is_identifier, is_type_word, is_storage_word}
 use Rattle.c_grammar.specs.Scopes.{Names, is_typedef_name, says_type, after}
 use Rattle.c_grammar.specs.Derivation as rule

@@ -7,9 +7,9 @@ use Rattle.c_lexer.specs.declared.token.Token.{Token}
 use Rattle.c_lexer.specs.declared.token.TokenKind.{TokenKind}
 use Rattle.c_lexer.specs.declared.token.TokenKind.TheVariants as token
 use Rattle.c_lexer.specs.Dump.{mark_text}
-use Rattle.c_types.specs.declared.kind.SynKind.{SynKind}
-use Rattle.c_types.specs.declared.kind.SynKind.TheVariants as kind
-use Rattle.c_types.specs.Trees.{Tree, Forest, none, tree, ◌then◌, one, two, three, text_node, plain_node, int_node, char_node, string_node, height}
+use Rattle.c_syntax.specs.declared.kind.SynKind.{SynKind}
+use Rattle.c_syntax.specs.declared.kind.SynKind.TheVariants as kind
+use Rattle.c_syntax.specs.Trees.{Tree, Forest, none, tree, ◌then◌, one, two, three, text_node, plain_node, int_node, char_node, string_node, height}
 use Rattle.c_grammar.specs.Vocabulary.{is_identifier, is_type_word, is_storage_word, is_unary_operator, is_assignment, level_of, Place, start_of}
 use Rattle.c_grammar.specs.Scopes.{Names, opened, is_typedef_name, add, says_type, says_typedef, after, after_declarator, after_parameter, entries_behind, in_body}
 use Rattle.c_grammar.specs.Derivation.{start, first_start, no_name, ends_open}

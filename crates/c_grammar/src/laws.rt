@@ -1,7 +1,7 @@
 // What holds of all derivations.
 ghost use Rattle.std.specs.Prelude.{◌≡◌, ℕ, ◌≤◌, ◌<◌, List, [], ◌∷◌, ◌++◌};
 ghost use Rattle.c_lexer.specs.declared.token.Token.{Token};
-ghost use Rattle.c_types.specs.Trees.{Tree, Forest, height, forest_height};
+ghost use Rattle.c_syntax.specs.Trees.{Tree, Forest, height, forest_height};
 ghost use Rattle.c_grammar.specs.Scopes.{Names};
 ghost use Rattle.c_grammar.specs.Derivation.{Part, Row, Qualifiers, Literals, Derives, Lists, IsTreeOf};
 ghost use Rattle.c_grammar.specs.Fronts.{IsFront};

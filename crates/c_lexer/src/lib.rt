@@ -36,6 +36,3 @@ pub use dump::{mark_text, tokens_text};
 pub use lexer::lex;
 pub use place::line_of;
 pub use token::{IntType, LexFault, Punct, Token, TokenKind, Tokens};
-
-#[cfg(test)]
-mod tests;

@@ -1,10 +1,13 @@
 -- Chains that a loop reads: each link goes on with what is still to be read behind the tree so far.
-use Rattle.std.proofs.Common.{◌≡◌, ℕ, zero, suc, ◌+◌, ◌<◌, ◌≤◌, List, ap, ◌∙◌, arith}
+use Rattle.std.proofs.Common.{◌≡◌, ℕ, zero, suc, ◌+◌, ◌<◌, ◌≤◌, List, length, ap, ◌∙◌, arith}
 use Rattle.c_lexer.specs.declared.token.Token.{Token}
-use Rattle.c_types.specs.Trees.{Tree}
+use Rattle.c_syntax.specs.Trees.{Tree, height}
 use Rattle.c_grammar.specs.Answers.{Answer, found, deep, and_then}
 use Rattle.c_parts.specs.declared.budget.Stop.{Stop}
-use Rattle.c_parser.specs.Gives.{Stops}
+use Rattle.c_grammar.specs.Scopes.{Names}
+use Rattle.c_parts.specs.declared.part.Part.{Part}
+use Rattle.c_parser.specs.declared.parser.Parser.{Parser}
+use Rattle.c_parser.specs.Gives.{Stops, IsRead}
 use Rattle.c_parser.proofs.Stopping.{stops_then, stops_same}
 
 -- what a chain reads behind a tree, where so many links more are left at most
@@ -27,6 +30,14 @@ Splits chain x ts link = (k : ℕ) → chain k x ts ≡ and_then link (behind_li
 -- the chain is over
 abbrev pub Ends : Chain → Tree → List Token → Type 0
 Ends chain x ts = (k : ℕ) → chain k x ts ≡ found x ts
+
+-- what a loop has read of a chain
+pub record IsLinked (chain : Chain) (d : ℕ) (whole : Answer Tree) (next : Tree → Names) (under : List Tree) (most : ℕ) (p : Parser) (part : Part) : Type 0 where
+  pub tree : Tree
+  pub read : IsChain chain d whole part.height tree p.rest.now
+  pub is_read : IsRead next tree under p part
+  pub low : part.height ≤ d
+  pub shorter : length p.rest.now < most
 
 module _ (chain : Chain) (d : ℕ) where
   pub chain_first : (whole first : Answer Tree) (height : ℕ) (x : Tree) (ts : List Token)
@@ -52,3 +63,10 @@ module _ (chain : Chain) (d : ℕ) where
   pub chain_end : (whole : Answer Tree) (height : ℕ) (x : Tree) (ts : List Token)
       → IsChain chain d whole height x ts → Ends chain x ts → whole ≡ found x ts
   chain_end whole height x ts (k, (enough, e)) ends = e ∙ ends k
+
+  -- the same by parts
+  pub chain_longer : (whole link : Answer Tree) (x y : Tree) (left longer : Part) (ts rest : List Token)
+      → IsChain chain d whole left.height x ts → Splits chain x ts link → link ≡ found y rest → left.height ≡ height x → longer.height ≡ height y → height x < height y → longer.height ≤ d
+      → IsChain chain d whole longer.height y rest
+  chain_longer whole link x y left longer ts rest chain_is splits f hx hy higher fits =
+      chain_next whole link left.height longer.height x y ts rest chain_is splits f (omega (arith, hx, hy, higher)) fits

@@ -1,22 +1,24 @@
 -- Operators that a loop reads level by level: what is still to be read behind the tree so far, from one level up to another.
-use Rattle.std.proofs.Common.{◌≡◌, ℕ, zero, suc, ◌+◌, ◌-◌, ◌<◌, ◌≤◌, ◌==◌, inl, inr, Bool, true, false, List, ◌∷◌, nat_lt, if◌then◌else◌, refl, sym, ap, ◌∙◌, subst, arith}
+use Rattle.std.proofs.Common.{◌≡◌, ℕ, zero, suc, ◌+◌, ◌-◌, ◌<◌, ◌≤◌, ◌==◌, inl, inr, Bool, true, false, List, ◌∷◌, length, nat_lt, if◌then◌else◌, refl, sym, ap, ◌∙◌, subst, arith}
 use Rattle.std.proofs.lemmas.Bool.Decides.{nat_tests}
 use Rattle.c_lexer.specs.declared.token.Punct.{Punct}
 use Rattle.c_lexer.specs.declared.token.Token.{Token}
 use Rattle.c_lexer.specs.Dump.{mark_text}
-use Rattle.c_types.specs.declared.kind.SynKind.TheVariants as kind
-use Rattle.c_types.specs.Trees.{Tree, two, text_node, height}
+use Rattle.c_syntax.specs.declared.kind.SynKind.TheVariants as kind
+use Rattle.c_syntax.specs.Trees.{Tree, two, text_node, height}
 use Rattle.c_grammar.specs.Scopes.{Names, after}
 use Rattle.c_grammar.specs.Derivation.{start}
 use Rattle.c_grammar.specs.Vocabulary.{Place, mark, level_of}
 use Rattle.c_grammar.specs.Answers.{Answer, found, deep, and_then, Ahead, nothing_ahead, mark_ahead, word_ahead, integer_ahead, character_ahead, string_ahead, ahead}
 use Rattle.c_grammar.specs.Reading.{Reader, Goal, behind_one, operand_by, operands, binary_in, cast_in}
 use Rattle.c_parts.specs.declared.budget.Stop.{Stop}
-use Rattle.c_parser.specs.Gives.{Stops}
+use Rattle.c_parts.specs.declared.part.Part.{Part}
+use Rattle.c_parser.specs.declared.parser.Parser.{Parser}
+use Rattle.c_parser.specs.Gives.{Stops, IsRead}
 use Rattle.c_parser.specs.Steps.{no_operator}
 use Rattle.c_parser.proofs.Stopping.{stops_then, stops_same}
 use Rattle.c_parser.proofs.Chains.{Splits, behind_link}
-use Rattle.c_parser.proofs.Operators.{ahead_mark}
+use Rattle.c_parser.proofs.ExpressionLaws.{ahead_mark}
 use Rattle.c_parser.proofs.Links.{open_then, when_true, when_false}
 
 -- so much above a level
@@ -232,3 +234,12 @@ module _ (d : ℕ) (r : Reader) (names : Names) where
 pub operator_ahead : (l : ℕ) (ts : List Token) (op : Punct) {P Q : Type 0} → P × (Q × ((level_of op ≡ l) × ((at : Place) × (ts ≡ mark op at ∷ behind_one ts))))
     → (op : Punct) × ((at : Place) × ((level_of op ≡ l) × (ahead ts ≡ mark_ahead op at (behind_one ts))))
 operator_ahead l ts op (p, (q, (e, (at, a)))) = (op, (at, (e, ahead_mark op ts at a)))
+
+-- what a loop has read of binary operators: those of this level are the last
+pub record IsClimbed (d : ℕ) (r : Reader) (names : Names) (whole : Answer Tree) (tightest top : ℕ) (under : List Tree) (most : ℕ) (p : Parser) (part : Part) : Type 0 where
+  pub tree : Tree
+  pub read : IsClimb d r names whole tightest top part.height tree p.rest.now
+  pub some : 1 ≤ tightest
+  pub is_read : IsRead (after names) tree under p part
+  pub low : part.height ≤ d
+  pub shorter : length p.rest.now < most

@@ -1,39 +1,17 @@
 -- The names behind what declares: functions, initialized declarators and declarations; and behind parts in order.
-use Rattle.std.proofs.Common.{◌≡◌, ℕ, Bool, true, false, List, [], ◌∷◌, ◌++◌, map, drop, refl, sym, ap, ◌∙◌, append_assoc}
+use Rattle.std.proofs.Common.{◌≡◌, ℕ, Bool, false, List, [], ◌∷◌, ◌++◌, drop, refl, sym, ap, ◌∙◌, append_assoc}
 use Rattle.std.proofs.lemmas.List.{append-nil}
-use Rattle.c_types.specs.declared.kind.SynKind.{SynKind}
-use Rattle.c_types.specs.declared.kind.SynKind.TheVariants as kind
-use Rattle.c_types.specs.declared.tree.Tree as code
-use Rattle.c_types.specs.Trees.{Tree, Forest, none, ◌then◌, one, two, three, text_node, plain_node, forest_of, seen}
-use Rattle.c_grammar.specs.Scopes.{Names, Entry, add, after, after_declarator, entry, entries, entries_by, entries_behind, entries_with, own_entries, declares_types, name_of, says_typedef, opened}
-use Rattle.c_parts.proofs.NameLaws.{add_nothing, add_joined, declares_nothing, after_two, after_three, entries_more, entries_then}
-
--- ---- parts in order
-
-pub names_two : (names names2 names3 : Names) (k : SynKind) (text : List ℕ) (start : ℕ) (t x y : Tree)
-    → declares_nothing k ≡ true → t ≡ text_node k text start (two x y) → names2 ≡ after names x → names3 ≡ after names2 y → names3 ≡ after names t
-names_two names names2 names3 k text start t x y k_is t_is first second =
-    second ∙ ap (λ (n : Names). after n y) first ∙ sym (ap (after names) t_is ∙ after_two names k text start x y k_is)
-
-pub names_three : (names names2 names3 names4 : Names) (k : SynKind) (text : List ℕ) (start : ℕ) (t x y z : Tree)
-    → declares_nothing k ≡ true → t ≡ text_node k text start (three x y z) → names2 ≡ after names x → names3 ≡ after names2 y → names4 ≡ after names3 z → names4 ≡ after
-    names t
-names_three names names2 names3 names4 k text start t x y z k_is t_is first second third =
-    third ∙ ap (λ (n : Names). after n z) (second ∙ ap (λ (n : Names). after n y) first) ∙ sym (ap (after names) t_is ∙ after_three names k text start x y z k_is)
+use Rattle.c_syntax.specs.declared.kind.SynKind.{SynKind}
+use Rattle.c_syntax.specs.declared.kind.SynKind.TheVariants as kind
+use Rattle.c_syntax.specs.Trees.{Tree, Forest, none, ◌then◌, one, two, three, plain_node}
+use Rattle.c_grammar.specs.Scopes.{Names, Entry, add, after, after_declarator, entry, entries, entries_by, entries_behind, entries_with, own_entries, declares_types, name_of, says_typedef}
+use Rattle.c_parts.proofs.NameLaws.{add_nothing, add_joined, entries_then}
 
 -- ---- scopes that are closed
 
 pub drop_add : (names : Names) (more : List Entry) → drop 1 (add names more) ≡ drop 1 names
 drop_add [] more = refl
 drop_add (scope ∷ outer) more = refl
-
--- a `for` statement declares nothing outside
-pub names_for : (names names2 names3 names4 names5 last : Names) (start : ℕ) (t : Tree) (kids : Forest) (a b c e : List Entry)
-    → t ≡ plain_node kind.For start kids → names2 ≡ add (opened names) a → names3 ≡ add names2 b → names4 ≡ add names3 c → names5 ≡ add names4 e → last ≡ drop 1 names5
-    → last ≡ after names t
-names_for names names2 names3 names4 names5 last start t kids a b c e t_is first second third fourth closed =
-    closed ∙ ap (drop 1) fourth ∙ drop_add names4 e ∙ ap (drop 1) third ∙ drop_add names3 c ∙ ap (drop 1) second ∙ drop_add names2 b
-    ∙ ap (drop 1) first ∙ sym (ap (after names) t_is ∙ add_nothing names)
 
 -- ---- initialized declarators
 
@@ -65,16 +43,6 @@ names_init_two names names2 names3 is_typedef start t x y t_is first second =
     second ∙ ap (λ (n : Names). after n y) first ∙ add_joined names (entries x ++ entry (name_of (one x)) is_typedef) (entries y)
     ∙ sym (ap (λ (t : Tree). add names (entries_behind is_typedef (one t))) t_is ∙ ap (add names) (init_kids is_typedef start x (one y)))
 
--- one more of a row
-pub names_init_more : (names names0 before_it : Names) (is_typedef : Bool) (xs ys : List code.Tree) (t : code.Tree)
-    → before_it ≡ add names0 (entries_behind is_typedef (forest_of (map seen xs)))
-    → names ≡ add before_it (entries_behind is_typedef (one (seen t)))
-    → ys ≡ xs ++ (t ∷ [])
-    → names ≡ add names0 (entries_behind is_typedef (forest_of (map seen ys)))
-names_init_more names names0 before_it is_typedef xs ys t e f y =
-    f ∙ ap (λ (n : Names). add n (entries_behind is_typedef (one (seen t)))) e ∙ add_joined names0 _ _ ∙ ap (add names0) (sym (entries_more is_typedef xs t))
-    ∙ ap (λ (zs : List code.Tree). add names0 (entries_behind is_typedef (forest_of (map seen zs)))) (sym y)
-
 -- ---- declarations
 
 -- specs declare the same behind any specs
@@ -100,7 +68,7 @@ names_specs_alone names names2 start t s k t_is first = names_declaration names 
 
 -- ---- functions
 
-block_entries : (b : Tree) → b.label.kind ≡ kind.Block → entries_behind false (one b) ≡ []
+pub block_entries : (b : Tree) → b.label.kind ≡ kind.Block → entries_behind false (one b) ≡ []
 block_entries b k = ap (λ (k : SynKind). entries_by k b.label.text b.kids (entries_with (own_entries k false b.kids) (declares_types k b.kids) b.kids) ++ []) k
 
 function_entries : (start : ℕ) (s x b : Tree) → b.label.kind ≡ kind.Block
@@ -113,11 +81,11 @@ function_entries start s x b k =
     ∙ append_assoc (entries s) (entries x) (entry (name_of (one x)) false)
 
 -- before the body, in a scope of its own with these entries
-pub names_in_function : (names names2 names3 names4 : Names) (name : List ℕ) (s x : Tree) (more more2 : List Entry)
-    → names2 ≡ after (after names s) x → name ≡ name_of (one x) → names3 ≡ opened (add names2 (entry name false)) → names4 ≡ add names3 more → more ≡ more2
-    → names4 ≡ more2 ∷ after_declarator (after names s) false x
-names_in_function names names2 names3 names4 name s x more more2 first name_is next last same =
-    last ∙ ap (λ (n : Names). add n more) next ∙ ap (λ (m : List Entry). m ∷ add names2 (entry name false)) same
+pub names_in_function : (names names2 names3 : Names) (name : List ℕ) (s x : Tree) (more more2 : List Entry)
+    → names2 ≡ after (after names s) x → name ≡ name_of (one x) → names3 ≡ more ∷ add names2 (entry name false) → more ≡ more2
+    → names3 ≡ more2 ∷ after_declarator (after names s) false x
+names_in_function names names2 names3 name s x more more2 first name_is next same =
+    next ∙ ap (λ (m : List Entry). m ∷ add names2 (entry name false)) same
     ∙ ap (λ (n : Names). more2 ∷ n) (names_declared (after names s) names2 (add names2 (entry name false)) false name x first name_is refl)
 
 pub names_function : (names names2 names3 last : Names) (scope body_entries : List Entry) (start : ℕ) (t s x b : Tree)

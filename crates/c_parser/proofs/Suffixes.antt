@@ -1,23 +1,25 @@
 -- One suffix of a declarator, and then the others.
-use Rattle.std.proofs.Common.{◌≡◌, ℕ, zero, suc, ◌+◌, ◌<◌, ◌≤◌, Bool, true, false, ◌&&◌, ◌||◌, List, codes, nat_lt, if◌then◌else◌, refl, sym, ap, ◌∙◌, arith, true≢false}
+use Rattle.std.proofs.Common.{◌≡◌, ℕ, zero, suc, ◌+◌, ◌<◌, ◌≤◌, Bool, true, false, ◌&&◌, ◌||◌, List, codes, length, nat_lt, if◌then◌else◌, refl, sym, ap, ◌∙◌, arith, true≢false}
 use Rattle.c_lexer.specs.declared.token.Punct.{Punct}
 use Rattle.c_lexer.specs.declared.token.Punct.TheVariants.{LeftBracket, RightBracket, LeftParenthesis, RightParenthesis}
 use Rattle.c_lexer.specs.declared.token.Token.{Token}
-use Rattle.c_types.specs.declared.kind.SynKind.TheVariants as kind
-use Rattle.c_types.specs.Trees.{Tree, Forest, ◌then◌, one, plain_node, height}
+use Rattle.c_syntax.specs.declared.kind.SynKind.TheVariants as kind
+use Rattle.c_syntax.specs.Trees.{Tree, Forest, ◌then◌, one, plain_node, height}
 use Rattle.c_grammar.specs.Scopes.{Names, opened, after}
 use Rattle.c_grammar.specs.Derivation.{start}
 use Rattle.c_grammar.specs.Answers.{Answer, found, wrong, deep, and_then, fit, Ahead, ahead, same_mark, expect, expect_by}
 use Rattle.c_grammar.specs.Reading.{Reader, Rows, begins_with_mark, begins_with_mark_by, begins_with_word, behind_one, goes_on_behind_void, is_named, parameters_in, void_in, takes_in, declared_suffix_by, declared_suffixes}
 use Rattle.c_grammar.proofs.SoundSteps.{IsAhead, is_nothing, is_mark, is_word, is_integer, is_character, is_string, ahead_is, both_true}
 use Rattle.c_parts.specs.declared.budget.Stop.{Stop}
-use Rattle.c_parser.specs.Gives.{Stops}
+use Rattle.c_parts.specs.declared.declarator.Declarator.{Declarator}
+use Rattle.c_parser.specs.declared.parser.Parser.{Parser}
+use Rattle.c_parser.specs.Gives.{Stops, Reads, IsDeclared, SaysDeclarator, SaysSuffixed}
 use Rattle.c_parser.specs.Steps.{begins_declared_suffix}
 use Rattle.c_parser.proofs.Stopping.{stops_then, stops_same}
 
 -- ---- one reading, another, and then a third
 
-then_on : {T U V : Type 0} (x : Answer T) (f : T → List Token → Answer U) (g : U → List Token → Answer V) (h : T → List Token → Answer V)
+pub then_on : {T U V : Type 0} (x : Answer T) (f : T → List Token → Answer U) (g : U → List Token → Answer V) (h : T → List Token → Answer V)
     → ((t : T) (b : List Token) → and_then (f t b) g ≡ h t b)
     → and_then (and_then x f) g ≡ and_then x h
 unfolding and_then
@@ -38,7 +40,7 @@ fit_on : {T U : Type 0} (needed d : ℕ) (rest : List Token) (x : Answer T) (g :
 unfolding fit and_then
 fit_on needed d rest x g v e = if_on (nat_lt d needed) (deep rest) x g (deep rest) v refl e
 
-expect_on : {T U : Type 0} (p : Punct) (ts : List Token) (f : List Token → Answer T) (g : T → List Token → Answer U) (h : List Token → Answer U)
+pub expect_on : {T U : Type 0} (p : Punct) (ts : List Token) (f : List Token → Answer T) (g : T → List Token → Answer U) (h : List Token → Answer U)
     → ((b : List Token) → and_then (f b) g ≡ h b)
     → and_then (expect p ts f) g ≡ expect p ts h
 unfolding expect expect_by and_then
@@ -118,9 +120,6 @@ abbrev pub IsChained : ℕ → Reader → Answer Tree → Names → Tree → Lis
 IsChained d r whole names x ts = (k : ℕ) × (d ≤ k + height x) × (whole ≡ declared_suffixes d r k names x ts)
 
 module _ (d : ℕ) (r : Reader) (names : Names) where
-  pub chained_first : (x : Tree) (ts : List Token) → IsChained d r (declared_suffixes d r d names x ts) names x ts
-  chained_first x ts = (d, omega arith, refl)
-
   module _ (whole : Answer Tree) (x : Tree) (ts : List Token) (named : Bool) (same : named ≡ is_named (one x)) (chained : IsChained d r whole names x ts) where
     begins_same : (b : Bool) → begins_declared_suffix named ts ≡ b → begins_declared_suffix (is_named (one x)) ts ≡ b
     begins_same b e = sym (ap (λ n. begins_declared_suffix n ts) same) ∙ e
@@ -162,3 +161,39 @@ module _ (d : ℕ) (r : Reader) (names : Names) where
         by : (k : ℕ) → whole ≡ declared_suffixes d r k names x ts → whole ≡ found x ts
         by zero w = w ∙ no_suffix d r names x (λ y rest. deep rest) ts ts (ahead ts) (ahead_is ts) (begins_same false e)
         by (suc k) w = w ∙ no_suffix d r names x (declared_suffixes d r k names) ts ts (ahead ts) (ahead_is ts) (begins_same false e)
+
+-- what a loop has read of a declarator and its suffixes
+pub record IsReadingSuffixes (d : ℕ) (r : Reader) (whole : Answer Tree) (names : Names) (under : List Tree) (most : ℕ) (p : Parser) (declarator : Declarator) : Type 0 where
+  pub tree : Tree
+  pub chained : IsChained d r whole names tree p.rest.now
+  pub is_declared : IsDeclared (after names) tree under p declarator
+  pub low : declarator.part.height ≤ d
+  pub shorter : length p.rest.now < most
+
+module _ (d : ℕ) (r : Reader) (whole : Answer Tree) (names : Names) (under : List Tree) (most : ℕ) where
+  module _ (p : Parser) (inner : Declarator) (so_far : IsReadingSuffixes d r whole names under most p inner) where
+    pub reading_suffixes_end : begins_declared_suffix inner.is_named p.rest.now ≡ false → Reads whole (after names) (λ t. SaysDeclarator p t inner) under d most p inner.part
+    reading_suffixes_end no_more = record {
+      tree = so_far.tree;
+      found_is = chained_end d r names whole so_far.tree p.rest.now inner.is_named so_far.is_declared.said.itself_is.named_is so_far.chained no_more;
+      read = so_far.is_declared.read;
+      said = so_far.is_declared.said;
+      low = so_far.low;
+      shorter = so_far.shorter;
+    }
+
+    module _ (more_is : begins_declared_suffix inner.is_named p.rest.now ≡ true) where
+      pub reading_suffixes_stops : (rest : List Token) (s : Stop) → Stops (declared_suffix_by d r names so_far.tree p.rest.now found (ahead p.rest.now)) rest s → Stops whole rest s
+      reading_suffixes_stops rest s h = chained_stops d r names whole so_far.tree p.rest.now inner.is_named so_far.is_declared.said.itself_is.named_is so_far.chained rest s more_is h
+
+      pub reading_suffixes_next : (q : Parser) (longer : Declarator)
+          → Reads (declared_suffix_by d r names so_far.tree p.rest.now found (ahead p.rest.now)) (after names) (λ t. SaysSuffixed q so_far.tree t longer) under d (length p.rest.now) q longer.part
+          → IsReadingSuffixes d r whole names under most q longer
+      reading_suffixes_next q longer more = record {
+        tree = more.tree;
+        chained = chained_next d r names whole so_far.tree p.rest.now inner.is_named so_far.is_declared.said.itself_is.named_is so_far.chained more.tree q.rest.now more_is more.found_is more.said.higher
+            (let h = more.read.pushed.height_is in let l = more.low in omega (arith, h, l));
+        is_declared = record { read = more.read; said = more.said.itself_is };
+        low = more.low;
+        shorter = let a = so_far.shorter in let b = more.shorter in omega (arith, a, b);
+      }

@@ -7,11 +7,11 @@ use Rattle.c_lexer.specs.declared.token.IntType.{IntType}
 use Rattle.c_lexer.specs.declared.token.Token.{Token}
 use Rattle.c_lexer.specs.declared.token.TokenKind.{TokenKind}
 use Rattle.c_lexer.specs.declared.token.TokenKind.TheVariants as token
-use Rattle.c_types.specs.Trees.{Tree, string_node}
+use Rattle.c_syntax.specs.Trees.{Tree, string_node}
 use Rattle.c_grammar.specs.Scopes.{Names}
 use Rattle.c_grammar.specs.Vocabulary.{Place, mark, word, integer, character, string}
-use Rattle.c_grammar.specs.Answers.{Answer, found, deep, fit, Ahead, word_ahead, ahead, ahead_by}
-use Rattle.c_grammar.specs.Reading.{behind_one, behind_const, behind_const_by, begins_with_word, begins_with_word_by, joined_behind, joined_by, Reader, primary_by}
+use Rattle.c_grammar.specs.Answers.{Answer, found, wrong, deep, fit, Ahead, word_ahead, ahead, ahead_by, expect, expect_by, expect_word, expect_word_by}
+use Rattle.c_grammar.specs.Reading.{behind_one, behind_const, behind_const_by, begins_with_mark, begins_with_mark_by, begins_with_word, begins_with_word_by, joined_behind, joined_by, Reader, primary_by}
 use Rattle.c_grammar.proofs.SoundSteps.{IsAhead, is_nothing, is_mark, is_word, is_integer, is_character, is_string, ahead_is}
 use Rattle.c_parser.specs.Steps.{begins_string}
 
@@ -99,9 +99,17 @@ shorter_word text ts e = by (ahead_is ts) e
 pub shorter_one : (ts : List Token) (t : Token) → ts ≡ t ∷ behind_one ts → length (behind_one ts) < length ts
 shorter_one ts t e = let h : length ts ≡ suc (length (behind_one ts)) = ap length e in omega arith
 
+pub some_shorter : (ts rest : List Token) → rest ≡ behind_one ts → 1 ≤ length ts → length rest < length ts
+some_shorter [] rest e some = absurd (omega (arith, some))
+some_shorter (t ∷ ts) rest e some = let h = ap length e in omega (arith, h)
+
 pub behind_one_shorter : (ts : List Token) → length (behind_one ts) ≤ length ts
 behind_one_shorter [] = omega arith
 behind_one_shorter (t ∷ rest) = omega arith
+
+-- a part behind a first token
+pub shorter_behind : (ts mid rest : List Token) → mid ≡ behind_one ts → length rest < length mid → length rest < length ts
+shorter_behind ts mid rest e h = let a = behind_one_shorter ts in let b = ap length e in omega (arith, a, b, h)
 
 pub still_shorter : (n : ℕ) (ts rest : List Token) → rest ≡ behind_one ts → length ts ≤ n → length rest ≤ n
 still_shorter n ts rest e h = let l = behind_one_shorter ts in let m = ap length e in omega arith
@@ -173,3 +181,68 @@ string_read d r names ts initial left first bytes start t s h i j e f =
     let read = string_read_at d r names ts first bytes left s.0 s.1.0 h cc in
     let same : string_node bytes s.0.start ≡ t = sym (f ∙ ap (string_node bytes) s.1.1) in
     read ∙ ap (λ x. found x left) same
+
+-- ---- a mark or a word that is expected
+
+pub mark_there : {U : Type 0} (expected : Punct) (ts : List Token) (go : List Token → Answer U) → begins_with_mark expected ts ≡ true → expect expected ts go ≡ go (behind_one ts)
+unfolding expect expect_by
+mark_there {U = U} expected ts go e = by (ahead_is ts) e
+  where
+    by : {ts : List Token} {h : Ahead} → IsAhead ts h → begins_with_mark_by expected h ≡ true → expect_by expected ts go h ≡ go (behind_one ts)
+    by is_nothing e = absurd (true≢false (sym e))
+    by (is_mark {p = p} {at = at} {rest = rest}) e = ap (λ b. if b then go rest else wrong (mark p at ∷ rest)) e
+    by is_word e = absurd (true≢false (sym e))
+    by is_integer e = absurd (true≢false (sym e))
+    by is_character e = absurd (true≢false (sym e))
+    by is_string e = absurd (true≢false (sym e))
+
+pub mark_absent : {U : Type 0} (expected : Punct) (ts : List Token) (go : List Token → Answer U) → begins_with_mark expected ts ≡ false → expect expected ts go ≡ wrong ts
+unfolding expect expect_by
+mark_absent {U = U} expected ts go e = by (ahead_is ts) e
+  where
+    by : {ts : List Token} {h : Ahead} → IsAhead ts h → begins_with_mark_by expected h ≡ false → expect_by expected ts go h ≡ wrong ts
+    by is_nothing e = refl
+    by (is_mark {p = p} {at = at} {rest = rest}) e = ap (λ b. if b then go rest else wrong (mark p at ∷ rest)) e
+    by is_word e = refl
+    by is_integer e = refl
+    by is_character e = refl
+    by is_string e = refl
+
+pub word_there : {U : Type 0} (text : List ℕ) (ts : List Token) (go : List Token → Answer U) → begins_with_word text ts ≡ true → expect_word text ts go ≡ go (behind_one ts)
+unfolding expect_word expect_word_by
+word_there {U = U} text ts go e = by (ahead_is ts) e
+  where
+    by : {ts : List Token} {h : Ahead} → IsAhead ts h → begins_with_word_by text h ≡ true → expect_word_by text ts go h ≡ go (behind_one ts)
+    by is_nothing e = absurd (true≢false (sym e))
+    by is_mark e = absurd (true≢false (sym e))
+    by (is_word {text = other} {at = at} {rest = rest}) e = ap (λ b. if b then go rest else wrong (word other at ∷ rest)) e
+    by is_integer e = absurd (true≢false (sym e))
+    by is_character e = absurd (true≢false (sym e))
+    by is_string e = absurd (true≢false (sym e))
+
+pub word_absent : {U : Type 0} (text : List ℕ) (ts : List Token) (go : List Token → Answer U) → begins_with_word text ts ≡ false → expect_word text ts go ≡ wrong ts
+unfolding expect_word expect_word_by
+word_absent {U = U} text ts go e = by (ahead_is ts) e
+  where
+    by : {ts : List Token} {h : Ahead} → IsAhead ts h → begins_with_word_by text h ≡ false → expect_word_by text ts go h ≡ wrong ts
+    by is_nothing e = refl
+    by is_mark e = refl
+    by (is_word {text = other} {at = at} {rest = rest}) e = ap (λ b. if b then go rest else wrong (word other at ∷ rest)) e
+    by is_integer e = refl
+    by is_character e = refl
+    by is_string e = refl
+
+-- ---- the first token with its place, as a function's caller has it
+
+pub placed_mark : (ts : List Token) (t : Token) (p : Punct) → ts ≡ t ∷ behind_one ts → t.kind ≡ token.Punct p → (at : Place) × ((ts ≡ mark p at ∷ behind_one ts) × (t.start ≡ at.start))
+placed_mark ts t p e k = (place_of t, (mark_token ts t p e k, refl))
+
+pub placed_word : (ts : List Token) (t : Token) (text text2 : List ℕ) → ts ≡ t ∷ behind_one ts → t.kind ≡ token.Word text → text2 ≡ text
+    → (at : Place) × ((ts ≡ word text2 at ∷ behind_one ts) × (t.start ≡ at.start))
+placed_word ts t text text2 e k same = (place_of t, (word_token ts t text e k ∙ ap (λ w. word w (place_of t) ∷ behind_one ts) (sym same), refl))
+
+pub placed_string : (ts : List Token) (t : Token) (bytes : List ℕ) → ts ≡ t ∷ behind_one ts → t.kind ≡ token.Str bytes → (at : Place) × ((ts ≡ string bytes at ∷ behind_one ts) × (t.start ≡ at.start))
+placed_string ts t bytes e k = (place_of t, (string_token ts t bytes e k, refl))
+
+pub some_token : (ts : List Token) (t : Token) → ts ≡ t ∷ behind_one ts → 1 ≤ length ts
+some_token ts t e = let h : length ts ≡ suc (length (behind_one ts)) = ap length e in omega (arith, h)

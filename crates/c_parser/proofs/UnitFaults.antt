@@ -1,9 +1,9 @@
 -- What a reading of a unit says of its tokens.
 use Rattle.std.proofs.Common.{◌≡◌, ℕ, suc, ◌+◌, ◌-◌, ◌<◌, ◌≤◌, List, [], ◌∷◌, ◌++◌, length, length-append, take, refl, sym, ap, ◌∙◌, subst, arith}
 use Rattle.c_lexer.specs.declared.token.Token.{Token}
-use Rattle.c_types.specs.declared.syntax.SynNode.{SynNode}
-use Rattle.c_types.specs.Tables.{table_of}
-use Rattle.c_types.specs.Trees.{Tree, height}
+use Rattle.c_syntax.specs.declared.syntax.SynNode.{SynNode}
+use Rattle.c_syntax.specs.Tables.{table_of, stack_of, IsWhole}
+use Rattle.c_syntax.specs.Trees.{Tree, height}
 use Rattle.c_grammar.specs.Derivation.{IsTreeOf}
 use Rattle.c_grammar.specs.Answers.{Answer, found, wrong, deep}
 use Rattle.c_grammar.specs.Reading.{read_unit}
@@ -13,6 +13,10 @@ use Rattle.c_grammar.proofs.Kept.{unit_kept}
 use Rattle.c_grammar.proofs.KeptSteps.{Keeps, keeps_found, keeps_wrong, keeps_deep}
 use Rattle.c_grammar.proofs.OneTree.{wrong_has_none, one_tree_of}
 use Rattle.c_grammar.proofs.Sound.{found_unit}
+use Rattle.c_parts.specs.declared.budget.Stop.{Stop}
+use Rattle.c_parts.specs.declared.part.Part.{Part}
+use Rattle.c_parser.specs.declared.parser.Parser.{Parser}
+use Rattle.c_parser.specs.Gives.{ReadsUnit, Stops}
 use Rattle.c_parser.specs.Parsing.{HasTable, IsWrong, IsTooDeep}
 
 -- ---- the place
@@ -39,15 +43,6 @@ wrong_left d ts rest e = left_behind d ts rest (wrong rest) e refl
 deep_left : (d : ℕ) (ts rest : List Token) → read_unit d ts ≡ deep rest → (pre : List Token) × (ts ≡ pre ++ rest)
 unfolding rest_of
 deep_left d ts rest e = left_behind d ts rest (deep rest) e refl
-
-no_more : (ts rest : List Token) → (pre : List Token) × (ts ≡ pre ++ rest) → length rest ≤ length ts
-no_more ts rest (pre, e) = omega (arith, ap length e, length-append pre rest)
-
-pub wrong_shorter : (d : ℕ) (ts rest : List Token) → read_unit d ts ≡ wrong rest → length rest ≤ length ts
-wrong_shorter d ts rest e = no_more ts rest (wrong_left d ts rest e)
-
-pub deep_shorter : (d : ℕ) (ts rest : List Token) → read_unit d ts ≡ deep rest → length rest ≤ length ts
-deep_shorter d ts rest e = no_more ts rest (deep_left d ts rest e)
 
 -- ---- lists that begin so
 
@@ -115,6 +110,23 @@ unit_too_deep ts rest e = by (deep_left 500 ts rest e)
     by (pre, s) =
         let place : length pre ≡ length ts - length rest = omega (arith, ap length s, length-append pre rest) in
         subst (IsTooDeep ts) place (subst (λ us. IsTooDeep us (length pre)) (sym s) (deep_behind pre rest (ap (read_unit 500) (sym s) ∙ e)))
+
+-- ---- what the call gave
+
+pub unit_stop : (ts rest0 rest : List Token) (s s2 : Stop) → rest0 ≡ ts → s ≡ s2 → Stops (read_unit 500 rest0) rest s → Stops (read_unit 500 ts) rest s2
+unit_stop ts rest0 rest s s2 e same h = subst (λ (us : List Token). Stops (read_unit 500 us) rest s2) e (subst (Stops (read_unit 500 rest0) rest) same h)
+
+module _ (ts rest0 : List Token) (p : Parser) (part : Part) (e : rest0 ≡ ts) (h : ReadsUnit (read_unit 500 rest0) p part) where
+  pub unit_found : read_unit 500 ts ≡ found h.tree []
+  unit_found = ap (read_unit 500) (sym e) ∙ h.found_is ∙ ap (found h.tree) h.ended
+
+  pub unit_whole : IsWhole (stack_of p.trees) part.height
+  unit_whole = record {
+    of = h.tree;
+    alone = h.pushed.stack_is;
+    highest = h.pushed.height_is;
+    low = let l = (found_unit 500 ts h.tree unit_found).1 in let g = h.pushed.height_is in omega (arith, l, g);
+  }
 
 -- ---- trees
 

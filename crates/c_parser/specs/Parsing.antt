@@ -1,14 +1,10 @@
 -- What the parser answers of a list of tokens.
 use Rattle.std.specs.Prelude.{◌≡◌, ℕ, ◌+◌, ◌<◌, ◌≤◌, List, ◌++◌, length, take}
 use Rattle.c_lexer.specs.declared.token.Token.{Token}
-use Rattle.c_types.specs.declared.syntax.SynNode.{SynNode}
-use Rattle.c_types.specs.Tables.{table_of}
-use Rattle.c_types.specs.Trees.{Tree, height}
+use Rattle.c_syntax.specs.declared.syntax.SynNode.{SynNode}
+use Rattle.c_syntax.specs.Tables.{table_of}
+use Rattle.c_syntax.specs.Trees.{Tree, height, max_height}
 use Rattle.c_grammar.specs.Derivation.{IsTreeOf}
-
--- the greatest height of a tree that is answered
-abbrev pub max_height : ℕ
-max_height = 500
 
 -- the tokens have a tree with this table, and it is no higher than that
 pub record HasTable (tokens : List Token) (table : List SynNode) : Type 0 where

@@ -1,232 +1,262 @@
 // Declarations and functions. C99 6.7, 6.7.8, 6.9.
-#![tactic(auto, unfolding(c_grammar::specs::Answers::and_then, c_grammar::specs::Answers::fit, c_grammar::specs::Reading::level, c_grammar::specs::Reading::goal_in, c_grammar::specs::Reading::rows_in, c_grammar::specs::Answers::ahead, c_grammar::specs::Answers::ahead_by, c_grammar::specs::Reading::external_in, c_grammar::specs::Reading::specs_first, c_grammar::specs::Reading::lower, c_grammar::specs::Reading::function_by, c_grammar::specs::Reading::declaration_from, c_grammar::specs::Reading::declarators_behind, c_grammar::specs::Reading::init_behind_in, c_grammar::specs::Reading::listed, c_grammar::specs::Reading::init_behind_by, c_grammar::specs::Reading::declaration_in, c_grammar::specs::Reading::declaration_behind, c_grammar::specs::Reading::init_declarator_in, c_grammar::specs::Reading::initialized_by, c_grammar::specs::Reading::initializer_in, c_grammar::specs::Reading::initializer_by, c_grammar::specs::Reading::listed_in_braces))]
-
-ghost use Rattle.std.specs.Prelude.{◌+◌, ◌≡◌, ◌≤◌, ◌<◌, ◌^◌, false, length, map, IfOk, OnOk, max};
-ghost use Rattle.c_types.specs.Trees.{one, seen, forest_of};
-ghost use Rattle.c_grammar.specs.Scopes.{Names, add, after, entries_behind};
-ghost use Rattle.c_grammar.specs.Answers.{ahead};
+ghost use Rattle.std.specs.Prelude.{◌<◌, ◌≤◌, ◌+◌, ◌^◌, max, IfOk};
 ghost use Rattle.c_grammar.specs.Reading.{below};
-ghost use Rattle.c_parser.specs.Gives.{Gives, GivesAll};
-ghost use Rattle.c_parser.specs.Steps.{function_of};
-ghost use Rattle.c_types.specs.declared.kind.SynKind.TheVariants as kind;
+ghost use Rattle.c_parser.specs.Gives.{GivesPart, GivesParts, GivesExternalFrom, GivesInitialized, GivesInitializedFrom, GivesInitializedRow, GivesInitializedRowFrom, OpensBody};
+ghost use Rattle.c_parser.specs.Steps.{function_of, declared_row_from, initialized_from, initialized_of, uninitialized_at};
 ghost use Rattle.c_grammar.specs.Reading as reading;
 
 use crate::parser::Parser;
 use c_lexer::Punct;
 use c_parts::{
-    Declarator, Mode, Part, Parts, Specs, Stop, above, above_row, above_three, above_two,
-    next_lower, node, within,
+    Declarator, Mode, Part, Specs, Stop, above, above_first, above_row, above_three, above_two,
+    next_lower,
 };
-use c_types::SynKind;
+use c_syntax::SynKind;
 
 impl<'a> Parser<'a> {
     /// A function or a declaration of the unit.
     // external = specs declarator block | declaration
     pub fn external(&mut self, budget: usize) -> Result<Part, Stop>
-        ensures reading { Gives (reading.external_in budget (below budget) self.old.names self.old.rest.now) self.new.rest.now result }
-        ensures names { IfOk result (λ part. self.new.names ≡ after self.old.names (seen part.tree)) }
-        ensures height { IfOk result (λ part. part.height ≤ budget) }
-        ensures shorter { OnOk result (length self.new.rest.now < length self.old.rest.now) }
+        ensures { GivesPart (reading.external_in budget (below budget)) budget self.old self.new result }
     {
         let specs = self.specs(next_lower(budget))?;
         if self.at_mark(Punct::Semicolon) {
             self.advance();
             let start = specs.part.start;
-            return Ok(above(self.alloc, SynKind::Declaration, "", start, specs.part)?);
+            return above(&mut self.trees, SynKind::Declaration, "", start, specs.part);
         }
-        let x = self.declared(Mode::Named, next_lower(budget))?;
+        let declarator = self.declared(Mode::Named, next_lower(budget))?;
         if self.at_mark(Punct::LeftBrace) {
-            return self.function(specs.part, x, budget);
+            return self.function(specs, declarator, budget);
         }
-        self.declaration_from(specs, x, budget)
+        self.declaration_from(specs, declarator, budget)
     }
 
     // A function, from its body on.
-    fn function(&mut self, specs: Part, x: Declarator<'a>, budget: usize) -> Result<Part, Stop>
-        requires { max specs.height x.part.height < budget }
-        ensures reading { (names : Names) → self.old.names ≡ after (after names (seen specs.tree)) (seen x.entry.part.tree) → Gives (function_of (below budget) names (seen specs.tree) (seen x.entry.part.tree) self.old.rest.now) self.new.rest.now result }
-        ensures names { (names : Names) → self.old.names ≡ after (after names (seen specs.tree)) (seen x.entry.part.tree) → IfOk result (λ part. self.new.names ≡ after names (seen part.tree)) }
-        ensures height { IfOk result (λ part. part.height ≤ budget) }
-        ensures shorter { OnOk result (length self.new.rest.now < length self.old.rest.now) }
+    fn function(
+        &mut self,
+        specs: Specs,
+        declarator: Declarator<'a>,
+        budget: usize,
+    ) -> Result<Part, Stop>
+        requires { max specs.part.height declarator.part.height < budget }
+        ensures { GivesExternalFrom (function_of (below budget)) budget specs declarator.entry self.old self.new result }
     {
-        self.names.add(x.name, false)?;
-        self.names.open()?;
-        self.names.add_all(x.parameters.as_slice())?;
+        self.open_body(declarator.name)?;
         let body = self.body(next_lower(budget))?;
         self.names.close();
-        Ok(above_three(
-            self.alloc,
+        let (specs, declared) = (specs.part, declarator.part);
+        above_three(
+            &mut self.trees,
             SynKind::Function,
-            "",
             specs.start,
             specs,
-            x.part,
+            declared,
             body,
-        )?)
+        )
+    }
+
+    // The scope of a function's body, with its parameters; the function's name stands outside of it.
+    fn open_body(&mut self, name: &'a str) -> Result<(), Stop>
+        ensures { OpensBody name.now self.old self.new result }
+    {
+        self.names.add(name, false)?;
+        self.names.open()?;
+        self.names.add_all(self.parameters.as_slice())?;
+        Ok(())
     }
 
     // A declaration, from behind its first declarator.
     fn declaration_from(
         &mut self,
         specs: Specs,
-        x: Declarator<'a>,
+        declarator: Declarator<'a>,
         budget: usize,
     ) -> Result<Part, Stop>
-        requires within { max specs.part.height x.part.height < budget }
-        requires specs { (seen specs.part.tree).label.kind ≡ kind.Specs }
-        ensures reading { (names : Names) → self.old.names ≡ after (after names (seen specs.part.tree)) (seen x.entry.part.tree) → Gives (reading.declaration_from budget (below budget) names (seen specs.part.tree) (seen x.entry.part.tree) self.old.rest.now) self.new.rest.now result }
-        ensures names { (names : Names) → self.old.names ≡ after (after names (seen specs.part.tree)) (seen x.entry.part.tree) → IfOk result (λ part. self.new.names ≡ after names (seen part.tree)) }
-        ensures height { IfOk result (λ part. part.height ≤ budget) }
-        ensures shorter { OnOk result (length self.new.rest.now < length self.old.rest.now) }
+        requires { max specs.part.height declarator.part.height < budget }
+        ensures { GivesExternalFrom (reading.declaration_from budget (below budget)) budget specs declarator.entry self.old self.new result }
     {
-        let row = self.init_declarators_from(specs.is_typedef, x, next_lower(budget))?;
+        let mark = self.trees.len().saturating_sub(1);
+        let lower = next_lower(budget);
+        let height = self.init_declarators_from(specs.is_typedef, declarator, lower)?;
         self.expect(Punct::Semicolon)?;
-        let start = specs.part.start;
-        Ok(above_row(self.alloc, SynKind::Declaration, start, specs.part, row)?)
+        let (start, part) = (specs.part.start, specs.part);
+        above_first(
+            &mut self.trees,
+            SynKind::Declaration,
+            start,
+            part,
+            mark,
+            height,
+        )
     }
 
     // Initialized declarators, from behind the first declarator.
     fn init_declarators_from(
         &mut self,
         is_typedef: bool,
-        x: Declarator<'a>,
+        declarator: Declarator<'a>,
         budget: usize,
-    ) -> Result<Parts, Stop>
-        requires { x.part.height + 1 < 2 ^ 64 }
-        ensures reading { (names : Names) → self.old.names ≡ after names (seen x.entry.part.tree) → GivesAll (reading.declarators_behind budget (below budget) is_typedef (seen x.entry.part.tree) names self.old.rest.now) self.new.rest.now result }
-        ensures names { (names : Names) → self.old.names ≡ after names (seen x.entry.part.tree) → IfOk result (λ parts. self.new.names ≡ add names (entries_behind is_typedef (forest_of (map seen parts.trees.items)))) }
-        ensures height { IfOk result (λ parts. parts.height ≤ budget) }
-        ensures shorter { OnOk result (length self.new.rest.now ≤ length self.old.rest.now) }
+    ) -> Result<usize, Stop>
+        requires { declarator.part.height + 1 < 2 ^ 64 }
+        ensures low { IfOk result (λ height. height ≤ budget) }
+        ensures read { GivesInitializedRowFrom is_typedef (declared_row_from budget (below budget) is_typedef) budget declarator.entry self.old self.new result }
     {
-        let mut row = Parts::new(self.alloc);
-        row.push(self.init_declarator_from(is_typedef, x, budget)?)?;
+        let mut height = self
+            .init_declarator_from(is_typedef, declarator, budget)?
+            .height;
         while self.at_mark(Punct::Comma) {
             self.advance();
-            row.push(self.init_declarator(is_typedef, budget)?)?;
+            height = height.max(self.init_declarator(is_typedef, budget)?.height);
         }
-        Ok(row)
+        Ok(height)
     }
 
     // One of them, from behind its declarator.
     fn init_declarator_from(
         &mut self,
         is_typedef: bool,
-        x: Declarator<'a>,
+        declarator: Declarator<'a>,
         budget: usize,
     ) -> Result<Part, Stop>
-        requires { x.part.height + 1 < 2 ^ 64 }
-        ensures reading { (names : Names) → self.old.names ≡ after names (seen x.entry.part.tree) → Gives (reading.init_behind_by budget (below budget) is_typedef names (seen x.entry.part.tree) self.old.rest.now (ahead self.old.rest.now)) self.new.rest.now result }
-        ensures names { (names : Names) → self.old.names ≡ after names (seen x.entry.part.tree) → IfOk result (λ part. self.new.names ≡ add names (entries_behind is_typedef (one (seen part.tree)))) }
-        ensures height { IfOk result (λ part. part.height ≤ budget) }
-        ensures shorter { OnOk result (length self.new.rest.now ≤ length self.old.rest.now) }
+        requires { declarator.part.height + 1 < 2 ^ 64 }
+        ensures low { IfOk result (λ part. part.height ≤ budget) }
+        ensures read { GivesInitializedFrom is_typedef (initialized_from budget (below budget) is_typedef) budget declarator.entry self.old self.new result }
     {
         if self.at_mark(Punct::Equal) {
-            self.advance();
-            let lower = within(x.part.height + 1, budget)?;
-            self.names.add(x.name, is_typedef)?;
-            let y = self.initializer(lower)?;
-            return Ok(above_two(self.alloc, SynKind::InitDecl, "", x.part.start, x.part, y)?);
+            let lower = self.enter(declarator.part.height, budget)?;
+            return self.initialized(is_typedef, declarator, lower);
         }
         if !self.at_mark(Punct::Comma) && !self.at_mark(Punct::Semicolon) {
             return Err(Stop::Wrong);
         }
-        if budget < x.part.height + 1 {
+        if budget <= declarator.part.height {
             self.advance();
             return Err(Stop::Deep);
         }
-        self.names.add(x.name, is_typedef)?;
-        Ok(above(self.alloc, SynKind::InitDecl, "", x.part.start, x.part)?)
+        self.uninitialized(is_typedef, declarator)
+    }
+
+    // A declarator with its initializer, from this on.
+    fn initialized(
+        &mut self,
+        is_typedef: bool,
+        declarator: Declarator<'a>,
+        budget: usize,
+    ) -> Result<Part, Stop>
+        requires fits { declarator.part.height ≤ budget }
+        requires small { budget + 1 < 2 ^ 64 }
+        ensures low { IfOk result (λ part. part.height ≤ budget + 1) }
+        ensures read { GivesInitializedFrom is_typedef (initialized_of (reading.level budget (below budget)) is_typedef) (budget + 1) declarator.entry self.old self.new result }
+    {
+        self.names.add(declarator.name, is_typedef)?;
+        let value = self.initializer(budget)?;
+        let declared = declarator.part;
+        above_two(
+            &mut self.trees,
+            SynKind::InitDecl,
+            "",
+            declared.start,
+            declared,
+            value,
+        )
+    }
+
+    // A declarator without one.
+    fn uninitialized(&mut self, is_typedef: bool, declarator: Declarator<'a>) -> Result<Part, Stop>
+        requires { declarator.part.height + 1 < 2 ^ 64 }
+        ensures low { IfOk result (λ part. part.height ≤ declarator.entry.part.height + 1) }
+        ensures read { GivesInitializedFrom is_typedef uninitialized_at (declarator.entry.part.height + 1) declarator.entry self.old self.new result }
+    {
+        self.names.add(declarator.name, is_typedef)?;
+        let declared = declarator.part;
+        above(
+            &mut self.trees,
+            SynKind::InitDecl,
+            "",
+            declared.start,
+            declared,
+        )
     }
 
     /// A declaration.
     // declaration = specs [ init_declarator { "," init_declarator } ] ";"
     pub fn declaration(&mut self, budget: usize) -> Result<Part, Stop>
-        ensures reading { Gives (reading.declaration_in budget (below budget) self.old.names self.old.rest.now) self.new.rest.now result }
-        ensures names { IfOk result (λ part. self.new.names ≡ after self.old.names (seen part.tree)) }
-        ensures height { IfOk result (λ part. part.height ≤ budget) }
-        ensures shorter { OnOk result (length self.new.rest.now < length self.old.rest.now) }
+        ensures { GivesPart (reading.declaration_in budget (below budget)) budget self.old self.new result }
     {
         let specs = self.specs(next_lower(budget))?;
-        let start = specs.part.start;
+        let (start, part) = (specs.part.start, specs.part);
         if self.at_mark(Punct::Semicolon) {
             self.advance();
-            return Ok(above(self.alloc, SynKind::Declaration, "", start, specs.part)?);
+            return above(&mut self.trees, SynKind::Declaration, "", start, part);
         }
-        let row = self.init_declarators(specs.is_typedef, next_lower(budget))?;
+        let mark = self.trees.len();
+        let height = self.init_declarators(specs.is_typedef, next_lower(budget))?;
         self.expect(Punct::Semicolon)?;
-        Ok(above_row(self.alloc, SynKind::Declaration, start, specs.part, row)?)
+        above_first(
+            &mut self.trees,
+            SynKind::Declaration,
+            start,
+            part,
+            mark,
+            height,
+        )
     }
 
     // The initialized declarators of a declaration.
-    fn init_declarators(&mut self, is_typedef: bool, budget: usize) -> Result<Parts, Stop>
-        ensures reading { GivesAll (reading.rows_in budget (below budget) (reading.init_declarators is_typedef) self.old.names self.old.rest.now) self.new.rest.now result }
-        ensures names { IfOk result (λ parts. self.new.names ≡ add self.old.names (entries_behind is_typedef (forest_of (map seen parts.trees.items)))) }
-        ensures height { IfOk result (λ parts. parts.height ≤ budget) }
-        ensures shorter { OnOk result (length self.new.rest.now < length self.old.rest.now) }
+    fn init_declarators(&mut self, is_typedef: bool, budget: usize) -> Result<usize, Stop>
+        ensures { GivesInitializedRow is_typedef (reading.rows_in budget (below budget) (reading.init_declarators is_typedef)) budget self.old self.new result }
     {
-        let mut row = Parts::new(self.alloc);
-        row.push(self.init_declarator(is_typedef, budget)?)?;
+        let mut height = self.init_declarator(is_typedef, budget)?.height;
         while self.at_mark(Punct::Comma) {
             self.advance();
-            row.push(self.init_declarator(is_typedef, budget)?)?;
+            height = height.max(self.init_declarator(is_typedef, budget)?.height);
         }
-        Ok(row)
+        Ok(height)
     }
 
     // init_declarator = declarator [ "=" initializer ]
     fn init_declarator(&mut self, is_typedef: bool, budget: usize) -> Result<Part, Stop>
-        ensures reading { Gives (reading.init_declarator_in budget (below budget) is_typedef self.old.names self.old.rest.now) self.new.rest.now result }
-        ensures names { IfOk result (λ part. self.new.names ≡ add self.old.names (entries_behind is_typedef (one (seen part.tree)))) }
-        ensures height { IfOk result (λ part. part.height ≤ budget) }
-        ensures shorter { OnOk result (length self.new.rest.now < length self.old.rest.now) }
+        ensures { GivesInitialized is_typedef (reading.init_declarator_in budget (below budget) is_typedef) budget self.old self.new result }
     {
-        let x = self.declared(Mode::Named, next_lower(budget))?;
-        self.names.add(x.name, is_typedef)?;
+        let lower = next_lower(budget);
+        let declarator = self.declared(Mode::Named, lower)?;
         if !self.at_mark(Punct::Equal) {
-            return Ok(above(self.alloc, SynKind::InitDecl, "", x.part.start, x.part)?);
+            return self.uninitialized(is_typedef, declarator);
         }
         self.advance();
-        let y = self.initializer(next_lower(budget))?;
-        Ok(above_two(self.alloc, SynKind::InitDecl, "", x.part.start, x.part, y)?)
+        self.initialized(is_typedef, declarator, lower)
     }
 
     // initializer = assign | "{" initializers "}"
-    #[tactic(auto, unfolding(c_grammar::specs::Answers::and_then, c_grammar::specs::Answers::fit, c_grammar::specs::Reading::level, c_grammar::specs::Reading::goal_in, c_grammar::specs::Reading::rows_in, c_grammar::specs::Answers::ahead, c_grammar::specs::Answers::ahead_by, c_grammar::specs::Reading::initializer_in, c_grammar::specs::Reading::initializer_by))]
     #[cycle(initialize)]
     fn initializer(&mut self, budget: usize) -> Result<Part, Stop>
-        ensures reading { Gives (reading.initializer_in budget (below budget) self.old.names self.old.rest.now) self.new.rest.now result }
-        ensures names { IfOk result (λ part. self.new.names ≡ after self.old.names (seen part.tree)) }
-        ensures height { IfOk result (λ part. part.height ≤ budget) }
-        ensures shorter { OnOk result (length self.new.rest.now < length self.old.rest.now) }
+        ensures { GivesPart (reading.initializer_in budget (below budget)) budget self.old self.new result }
     {
         if !self.at_mark(Punct::LeftBrace) {
             return self.assignment(budget);
         }
         let start = self.start();
-        self.advance();
-        let lower = within(2, budget)?;
-        let row = self.initializers(lower)?;
+        let lower = self.enter(1, budget)?;
+        let mark = self.trees.len();
+        let height = self.initializers(lower)?;
         self.expect(Punct::RightBrace)?;
-        Ok(node(self.alloc, SynKind::Braces, "", start, row)?)
+        above_row(&mut self.trees, SynKind::Braces, "", start, mark, height)
     }
 
     // initializers = initializer { "," initializer } [ "," ]
     #[cycle(initialize)]
-    fn initializers(&mut self, budget: usize) -> Result<Parts, Stop>
-        ensures reading { GivesAll (reading.rows_in budget (below budget) reading.initializers self.old.names self.old.rest.now) self.new.rest.now result }
-        ensures names { IfOk result (λ parts. self.new.names ≡ add self.old.names (entries_behind false (forest_of (map seen parts.trees.items)))) }
-        ensures height { IfOk result (λ parts. parts.height ≤ budget) }
-        ensures shorter { OnOk result (length self.new.rest.now < length self.old.rest.now) }
+    fn initializers(&mut self, budget: usize) -> Result<usize, Stop>
+        ensures { GivesParts (reading.rows_in budget (below budget) reading.initializers) budget self.old self.new result }
     {
-        let mut row = Parts::new(self.alloc);
-        row.push(self.initializer(budget)?)?;
+        let mut height = self.initializer(budget)?.height;
         while self.at_mark(Punct::Comma) {
             self.advance();
             if self.at_mark(Punct::RightBrace) {
-                return Ok(row);
+                return Ok(height);
             }
-            row.push(self.initializer(budget)?)?;
+            height = height.max(self.initializer(budget)?.height);
         }
-        Ok(row)
+        Ok(height)
     }
 }

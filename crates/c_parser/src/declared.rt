@@ -1,36 +1,25 @@
 // Declarators. C99 6.7.5, 6.7.6.
-#![tactic(auto, unfolding(c_grammar::specs::Answers::and_then, c_grammar::specs::Answers::fit, c_grammar::specs::Reading::level, c_grammar::specs::Reading::goal_in, c_grammar::specs::Reading::rows_in, c_grammar::specs::Answers::ahead, c_grammar::specs::Answers::ahead_by, c_grammar::specs::Reading::declared_in, c_grammar::specs::Reading::declared_by, c_grammar::specs::Reading::undeclared_in, c_grammar::specs::Reading::if_any, c_grammar::specs::Reading::declared_suffixes, c_grammar::specs::Reading::declared_suffix_by, c_grammar::specs::Reading::length_in, c_grammar::specs::Reading::takes_in, c_grammar::specs::Reading::void_in, c_grammar::specs::Reading::goes_on_behind_void_by, c_grammar::specs::Reading::begins_specifier_by, c_grammar::specs::Reading::parameters_in, c_grammar::specs::Reading::listed, c_grammar::specs::Reading::parameter_in, c_grammar::specs::Reading::specs_first, c_grammar::specs::Reading::lower))]
-
-ghost use Rattle.std.specs.Prelude.{◌≡◌, ◌≤◌, ◌<◌, ◌^◌, [], true, false, suc, length, map, IfOk, OnOk, codes};
-ghost use Rattle.c_types.specs.Trees.{seen, forest_of, ◌then◌};
-ghost use Rattle.c_grammar.specs.Scopes.{Names, add, after, entries_behind};
-ghost use Rattle.c_grammar.specs.Answers.{ahead, found};
+ghost use Rattle.std.specs.Prelude.{◌≡◌, ◌≤◌, ◌<◌, ◌^◌, true, suc, length, codes, IfOk};
 ghost use Rattle.c_grammar.specs.Reading.{below};
-ghost use Rattle.c_parser.specs.Gives.{Gives, GivesAll, GivesDeclarator};
-ghost use Rattle.c_parser.specs.Steps.{pointer_of, enclosed_of, array_of, begins_declared_suffix};
-ghost use Rattle.c_parts.specs.Kinds.{mode_of, needs_name};
+ghost use Rattle.c_parser.specs.Gives.{GivesDeclarator, GivesDeclared, GivesSuffixes, GivesSuffix, GivesPartsOrNone, GivesScoped, GivesParameter, GivesParameterRow};
+ghost use Rattle.c_parser.specs.Steps.{pointer_of, enclosed_of, suffixes_at, declared_suffix_at, array_of, takes_at, void_at, parameters_at, scoped_at, named_of, nothing_at, begins_declared_suffix};
+ghost use Rattle.c_parts.specs.Kinds.{mode_of};
 ghost use Rattle.c_grammar.specs.Reading as reading;
-ghost use Rattle.c_types.specs.declared.kind.SynKind.TheVariants as kind;
-ghost use Rattle.c_grammar.specs.Scopes as scopes;
 
 use crate::parser::Parser;
 use c_lexer::{Punct, TokenKind};
 use c_parts::{
-    Declarator, Mode, Part, Parts, Stop, above_two, is_absent, is_identifier, next_lower, within,
-    within_above,
+    Declarator, Mode, Part, Stop, Suffix, above_two, is_absent, is_identifier, next_lower, within,
 };
-use c_types::SynKind;
+use c_syntax::SynKind;
+use std::mem;
 
 impl<'a> Parser<'a> {
     /// A declarator; where the mode lets it, without a name, or nothing.
     // declarator = "*" { "const" } declarator | direct { suffix }
     #[cycle(parse)]
     pub fn declared(&mut self, mode: Mode, budget: usize) -> Result<Declarator<'a>, Stop>
-        ensures reading { GivesDeclarator (reading.declared_in budget (below budget) (mode_of mode) self.old.names self.old.rest.now) self.new.rest.now result }
-        ensures names { IfOk result (λ part. self.new.names ≡ after self.old.names (seen part.part.tree)) }
-        ensures height { IfOk result (λ part. part.part.height ≤ budget) }
-        ensures shorter { OnOk result (length self.new.rest.now ≤ length self.old.rest.now) }
-        ensures consumes { needs_name mode ≡ true → OnOk result (length self.new.rest.now < length self.old.rest.now) }
+        ensures { GivesDeclared mode (reading.declared_in budget (below budget) (mode_of mode)) budget self.old self.new result }
     {
         let Some(token) = self.peek() else {
             return self.undeclared(mode, budget);
@@ -43,83 +32,78 @@ impl<'a> Parser<'a> {
         }
         match &token.kind {
             TokenKind::Word(name) if mode.has_name() && is_identifier(name.as_slice()) => {
-                self.advance();
-                within(1, budget)?;
-                let x = Declarator::named(self.alloc, name.as_slice(), token.start)?;
-                self.declared_suffixes(x, budget)
+                self.named(name.as_slice(), token.start, budget)
             }
             _ => self.undeclared(mode, budget),
         }
     }
 
     // A pointer, from its mark on.
-    #[tactic(auto, using(crate::proofs::Declarators::behind_const_shorter), unfolding(c_grammar::specs::Answers::and_then, c_grammar::specs::Answers::fit, c_grammar::specs::Reading::level, c_grammar::specs::Reading::goal_in, c_grammar::specs::Reading::rows_in, c_grammar::specs::Answers::ahead, c_grammar::specs::Answers::ahead_by,))]
     #[cycle(parse)]
     fn pointer(&mut self, mode: Mode, start: usize, budget: usize) -> Result<Declarator<'a>, Stop>
         requires { 1 ≤ length self.now.rest.now }
-        ensures reading { GivesDeclarator (pointer_of budget (below budget) (mode_of mode) self.old.names start (reading.behind_one self.old.rest.now)) self.new.rest.now result }
-        ensures names { IfOk result (λ part. self.new.names ≡ after self.old.names (seen part.part.tree)) }
-        ensures height { IfOk result (λ part. part.part.height ≤ budget) }
-        ensures shorter { OnOk result (length self.new.rest.now < length self.old.rest.now) }
+        ensures { GivesDeclarator (pointer_of budget (below budget) (mode_of mode) start) budget self.old self.new result }
     {
-        self.advance();
-        let lower = within(2, budget)?;
+        let lower = self.enter(1, budget)?;
         self.skip_const();
-        let x = self.declared(mode, lower)?;
-        Ok(Declarator::pointer(self.alloc, start, x)?)
+        let inner = self.declared(mode, lower)?;
+        Declarator::pointer(&mut self.trees, start, inner)
     }
 
     // A declarator in parentheses, from these on.
     #[cycle(parse)]
     fn enclosed(&mut self, mode: Mode, start: usize, budget: usize) -> Result<Declarator<'a>, Stop>
         requires { 1 ≤ length self.now.rest.now }
-        ensures reading { GivesDeclarator (enclosed_of budget (below budget) (mode_of mode) self.old.names start (reading.behind_one self.old.rest.now)) self.new.rest.now result }
-        ensures names { IfOk result (λ part. self.new.names ≡ after self.old.names (seen part.part.tree)) }
-        ensures height { IfOk result (λ part. part.part.height ≤ budget) }
-        ensures shorter { OnOk result (length self.new.rest.now < length self.old.rest.now) }
+        ensures { GivesDeclarator (enclosed_of budget (below budget) (mode_of mode) start) budget self.old self.new result }
     {
-        self.advance();
-        let lower = within(2, budget)?;
-        let x = self.declared(mode, lower)?;
-        if is_absent(x.part.kind) {
+        let lower = self.enter(1, budget)?;
+        let inner = self.declared(mode, lower)?;
+        if is_absent(inner.part.kind) {
             return Err(Stop::Wrong);
         }
         self.expect(Punct::RightParenthesis)?;
-        let y = Declarator::enclosed(self.alloc, start, x)?;
-        self.declared_suffixes(y, budget)
+        let enclosed = Declarator::enclosed(&mut self.trees, start, inner)?;
+        self.declared_suffixes(enclosed, budget)
+    }
+
+    // A name, and the suffixes behind it.
+    #[cycle(parse)]
+    fn named(&mut self, name: &'a str, start: usize, budget: usize) -> Result<Declarator<'a>, Stop>
+        requires { 1 ≤ length self.now.rest.now }
+        ensures { GivesDeclarator (named_of budget (below budget) name.now start) budget self.old self.new result }
+    {
+        self.enter(0, budget)?;
+        self.parameters.clear();
+        let named = Declarator::named(&mut self.trees, name, start)?;
+        self.declared_suffixes(named, budget)
     }
 
     // Suffixes without a name before them.
     #[cycle(parse)]
     fn undeclared(&mut self, mode: Mode, budget: usize) -> Result<Declarator<'a>, Stop>
-        ensures reading { GivesDeclarator (reading.undeclared_in budget (below budget) (mode_of mode) self.old.names self.old.rest.now) self.new.rest.now result }
-        ensures names { IfOk result (λ part. self.new.names ≡ after self.old.names (seen part.part.tree)) }
-        ensures height { IfOk result (λ part. part.part.height ≤ budget) }
-        ensures shorter { OnOk result (length self.new.rest.now ≤ length self.old.rest.now) }
-        ensures consumes { needs_name mode ≡ true → OnOk result (length self.new.rest.now < length self.old.rest.now) }
+        ensures { GivesDeclared mode (reading.undeclared_in budget (below budget) (mode_of mode)) budget self.old self.new result }
     {
         if mode.needs_name() {
             return Err(Stop::Wrong);
         }
-        within(1, budget)?;
-        let x = Declarator::absent(self.alloc, self.start())?;
-        self.declared_suffixes(x, budget)
+        within(0, budget)?;
+        self.parameters.clear();
+        let start = self.start();
+        let absent = Declarator::absent(&mut self.trees, start)?;
+        self.declared_suffixes(absent, budget)
     }
 
     // { "[" [ cond ] "]" | "(" parameters ")" }
     #[cycle(parse)]
     fn declared_suffixes(
         &mut self,
-        x: Declarator<'a>,
+        declarator: Declarator<'a>,
         budget: usize,
     ) -> Result<Declarator<'a>, Stop>
-        requires { x.part.height ≤ budget }
-        ensures reading { (names : Names) → self.old.names ≡ after names (seen x.entry.part.tree) → GivesDeclarator (reading.declared_suffixes budget (below budget) budget names (seen x.entry.part.tree) self.old.rest.now) self.new.rest.now result }
-        ensures names { (names : Names) → self.old.names ≡ after names (seen x.entry.part.tree) → IfOk result (λ part. self.new.names ≡ after names (seen part.part.tree)) }
-        ensures height { IfOk result (λ part. part.part.height ≤ budget) }
-        ensures shorter { OnOk result (length self.new.rest.now ≤ length self.old.rest.now) }
+        requires { declarator.part.height ≤ budget }
+        ensures { GivesSuffixes (suffixes_at budget (below budget)) budget declarator.entry self.old self.new result }
     {
-        let mut declarator = x;
+        let mut declarator = declarator;
         while self.begins_declared_suffix(declarator.is_named) {
             declarator = self.declared_suffix(declarator, budget)?;
         }
@@ -134,92 +118,91 @@ impl<'a> Parser<'a> {
     }
 
     // One suffix more.
-    #[tactic(auto, unfolding(c_grammar::specs::Answers::and_then, c_grammar::specs::Answers::fit, c_grammar::specs::Reading::level, c_grammar::specs::Reading::goal_in, c_grammar::specs::Reading::rows_in, c_grammar::specs::Answers::ahead, c_grammar::specs::Answers::ahead_by, c_grammar::specs::Reading::declared_suffix_by))]
     #[cycle(parse)]
-    fn declared_suffix(&mut self, x: Declarator<'a>, budget: usize) -> Result<Declarator<'a>, Stop>
-        requires begins { begins_declared_suffix x.is_named self.now.rest.now ≡ true }
-        ensures reading { (names : Names) → self.old.names ≡ after names (seen x.entry.part.tree) → GivesDeclarator (reading.declared_suffix_by budget (below budget) names (seen x.entry.part.tree) self.old.rest.now found (ahead self.old.rest.now)) self.new.rest.now result }
-        ensures names { (names : Names) → self.old.names ≡ after names (seen x.entry.part.tree) → IfOk result (λ part. self.new.names ≡ after names (seen part.part.tree)) }
-        ensures height { IfOk result (λ part. part.part.height ≤ budget) }
-        ensures higher { IfOk result (λ part. x.entry.part.height < part.part.height) }
-        ensures shorter { OnOk result (length self.new.rest.now < length self.old.rest.now) }
+    fn declared_suffix(
+        &mut self,
+        inner: Declarator<'a>,
+        budget: usize,
+    ) -> Result<Declarator<'a>, Stop>
+        requires { begins_declared_suffix inner.is_named self.now.rest.now ≡ true }
+        ensures gives { GivesSuffix (declared_suffix_at budget (below budget)) budget inner.entry self.old self.new result }
+        ensures shorter { IfOk result (λ declarator. length self.new.rest.now < length self.old.rest.now) }
     {
         let is_array = self.at_mark(Punct::LeftBracket);
-        self.advance();
-        let lower = within_above(x.part.height, budget)?;
+        let lower = self.enter(inner.part.height, budget)?;
         if is_array {
-            return self.array(x, lower);
+            return self.array(inner, lower);
         }
-        self.takes(x, budget)
+        self.takes(inner, budget)
     }
 
     // An array, from behind its bracket.
     #[cycle(parse)]
-    fn array(&mut self, x: Declarator<'a>, lower: usize) -> Result<Declarator<'a>, Stop>
-        requires fits { x.part.height ≤ lower }
+    fn array(&mut self, inner: Declarator<'a>, lower: usize) -> Result<Declarator<'a>, Stop>
+        requires fits { inner.part.height ≤ lower }
         requires small { suc lower < 2 ^ 64 }
-        ensures reading { (names : Names) → self.old.names ≡ after names (seen x.entry.part.tree) → GivesDeclarator (array_of (reading.level lower (below lower)) self.old.names (seen x.entry.part.tree) self.old.rest.now) self.new.rest.now result }
-        ensures names { (names : Names) → self.old.names ≡ after names (seen x.entry.part.tree) → IfOk result (λ part. self.new.names ≡ after names (seen part.part.tree)) }
-        ensures height { IfOk result (λ part. part.part.height ≤ suc lower) }
-        ensures higher { IfOk result (λ part. x.entry.part.height < part.part.height) }
-        ensures shorter { OnOk result (length self.new.rest.now < length self.old.rest.now) }
+        ensures gives { GivesSuffix (array_of (reading.level lower (below lower))) (suc lower) inner.entry self.old self.new result }
+        ensures shorter { IfOk result (λ declarator. length self.new.rest.now < length self.old.rest.now) }
     {
-        let length = self.optional_length(lower)?;
+        let parameters = mem::replace(&mut self.parameters, Vec::new(self.alloc));
+        let mark = self.trees.len();
+        let height = self.optional_length(lower)?;
         self.expect(Punct::RightBracket)?;
-        Ok(Declarator::array(self.alloc, x, length)?)
+        self.parameters = parameters;
+        Declarator::suffixed(&mut self.trees, Suffix::Array, inner, mark, height)
     }
 
     // [ cond ]
     #[cycle(parse)]
-    fn optional_length(&mut self, budget: usize) -> Result<Parts, Stop>
-        ensures reading { GivesAll (reading.length_in budget (below budget) self.old.names self.old.rest.now) self.new.rest.now result }
-        ensures names { IfOk result (λ parts. self.new.names ≡ add self.old.names (entries_behind false (forest_of (map seen parts.trees.items)))) }
-        ensures height { IfOk result (λ parts. parts.height ≤ budget) }
-        ensures shorter { OnOk result (length self.new.rest.now ≤ length self.old.rest.now) }
+    fn optional_length(&mut self, budget: usize) -> Result<usize, Stop>
+        ensures { GivesPartsOrNone (reading.length_in budget (below budget)) budget self.old self.new result }
     {
-        let mut row = Parts::new(self.alloc);
-        if !self.at_mark(Punct::RightBracket) {
-            row.push(self.conditional(budget)?)?;
+        if self.at_mark(Punct::RightBracket) {
+            return Ok(0);
         }
-        Ok(row)
+        Ok(self.conditional(budget)?.height)
     }
 
     // Parameters, from behind their parenthesis.
     #[cycle(parse)]
-    fn takes(&mut self, x: Declarator<'a>, budget: usize) -> Result<Declarator<'a>, Stop>
-        requires fits { x.part.height < budget }
-        ensures reading { (names : Names) → self.old.names ≡ after names (seen x.entry.part.tree) → GivesDeclarator (reading.takes_in budget (below budget) names (seen x.entry.part.tree) self.old.rest.now found) self.new.rest.now result }
-        ensures names { (names : Names) → self.old.names ≡ after names (seen x.entry.part.tree) → IfOk result (λ part. self.new.names ≡ after names (seen part.part.tree)) }
-        ensures height { IfOk result (λ part. part.part.height ≤ budget) }
-        ensures higher { IfOk result (λ part. x.entry.part.height < part.part.height) }
-        ensures shorter { OnOk result (length self.new.rest.now < length self.old.rest.now) }
+    fn takes(&mut self, inner: Declarator<'a>, budget: usize) -> Result<Declarator<'a>, Stop>
+        requires { inner.part.height < budget }
+        ensures gives { GivesSuffix (takes_at budget (below budget)) budget inner.entry self.old self.new result }
+        ensures shorter { IfOk result (λ declarator. length self.new.rest.now < length self.old.rest.now) }
     {
         if self.at_mark(Punct::RightParenthesis) {
-            self.advance();
-            return Ok(Declarator::takes_nothing(self.alloc, x)?);
+            return self.takes_nothing(inner);
         }
         if self.at_word("void") {
-            return self.takes_void(x, budget);
+            return self.takes_void(inner, budget);
         }
-        self.takes_parameters(x, budget)
+        self.takes_parameters(inner, budget)
+    }
+
+    // No parameters, from their closing parenthesis on.
+    fn takes_nothing(&mut self, inner: Declarator<'a>) -> Result<Declarator<'a>, Stop>
+        requires small { suc inner.part.height < 2 ^ 64 }
+        requires some { 1 ≤ length self.now.rest.now }
+        ensures gives { GivesSuffix nothing_at (suc inner.entry.part.height) inner.entry self.old self.new result }
+        ensures shorter { IfOk result (λ declarator. length self.new.rest.now < length self.old.rest.now) }
+    {
+        self.advance();
+        let mark = self.trees.len();
+        Declarator::suffixed(&mut self.trees, Suffix::Takes, inner, mark, 0)
     }
 
     // Parameters that begin with `void`, which may stand alone.
     #[cycle(parse)]
-    fn takes_void(&mut self, x: Declarator<'a>, budget: usize) -> Result<Declarator<'a>, Stop>
-        requires fits { x.part.height < budget }
+    fn takes_void(&mut self, inner: Declarator<'a>, budget: usize) -> Result<Declarator<'a>, Stop>
+        requires fits { inner.part.height < budget }
         requires void { reading.begins_with_word (codes "void") self.now.rest.now ≡ true }
-        ensures reading { (names : Names) → self.old.names ≡ after names (seen x.entry.part.tree) → GivesDeclarator (reading.void_in budget (below budget) names (seen x.entry.part.tree) self.old.rest.now (reading.behind_one self.old.rest.now) found) self.new.rest.now result }
-        ensures names { (names : Names) → self.old.names ≡ after names (seen x.entry.part.tree) → IfOk result (λ part. self.new.names ≡ after names (seen part.part.tree)) }
-        ensures height { IfOk result (λ part. part.part.height ≤ budget) }
-        ensures higher { IfOk result (λ part. x.entry.part.height < part.part.height) }
-        ensures shorter { OnOk result (length self.new.rest.now < length self.old.rest.now) }
+        ensures gives { GivesSuffix (void_at budget (below budget)) budget inner.entry self.old self.new result }
+        ensures shorter { IfOk result (λ declarator. length self.new.rest.now < length self.old.rest.now) }
     {
         let here = self.rest;
         self.advance();
         if self.at_mark(Punct::RightParenthesis) {
-            self.advance();
-            return Ok(Declarator::takes_nothing(self.alloc, x)?);
+            return self.takes_nothing(inner);
         }
         if !self.goes_on_behind_void() {
             return Err(Stop::Wrong);
@@ -229,10 +212,11 @@ impl<'a> Parser<'a> {
             return Err(Stop::Deep);
         }
         self.rest = here;
-        self.takes_parameters(x, budget)
+        self.takes_parameters(inner, budget)
     }
 
     // A parameter that begins with `void` can go on here.
+    #[tactic(auto, unfolding(c_grammar::specs::Answers::ahead, c_grammar::specs::Answers::ahead_by, c_grammar::specs::Reading::goes_on_behind_void_by, c_grammar::specs::Reading::begins_specifier_by))]
     fn goes_on_behind_void(&self) -> bool
         ensures { result ≡ reading.goes_on_behind_void self.now.rest.now }
     {
@@ -251,54 +235,60 @@ impl<'a> Parser<'a> {
         }
     }
 
-    // Parameters in a scope of their own.
-    #[tactic(auto, unfolding(c_grammar::specs::Answers::and_then, c_grammar::specs::Answers::fit, c_grammar::specs::Reading::level, c_grammar::specs::Reading::goal_in, c_grammar::specs::Reading::rows_in, c_grammar::specs::Answers::ahead, c_grammar::specs::Answers::ahead_by, c_grammar::specs::Reading::parameters_in))]
+    // Parameters, up to their closing parenthesis; those next to a name are kept.
     #[cycle(parse)]
-    fn takes_parameters(&mut self, x: Declarator<'a>, budget: usize) -> Result<Declarator<'a>, Stop>
-        requires fits { x.part.height < budget }
-        ensures reading { (names : Names) → self.old.names ≡ after names (seen x.entry.part.tree) → GivesDeclarator (reading.parameters_in budget (below budget) names (seen x.entry.part.tree) self.old.rest.now found) self.new.rest.now result }
-        ensures names { (names : Names) → self.old.names ≡ after names (seen x.entry.part.tree) → IfOk result (λ part. self.new.names ≡ after names (seen part.part.tree)) }
-        ensures height { IfOk result (λ part. part.part.height ≤ budget) }
-        ensures higher { IfOk result (λ part. x.entry.part.height < part.part.height) }
-        ensures shorter { OnOk result (length self.new.rest.now < length self.old.rest.now) }
+    fn takes_parameters(
+        &mut self,
+        inner: Declarator<'a>,
+        budget: usize,
+    ) -> Result<Declarator<'a>, Stop>
+        requires { inner.part.height < budget }
+        ensures gives { GivesSuffix (parameters_at budget (below budget)) budget inner.entry self.old self.new result }
+        ensures shorter { IfOk result (λ declarator. length self.new.rest.now < length self.old.rest.now) }
+    {
+        let outer = mem::replace(&mut self.parameters, Vec::new(self.alloc));
+        let mark = self.trees.len();
+        let height = self.scoped_parameters(next_lower(budget))?;
+        if !inner.is_bare {
+            self.parameters = outer;
+        }
+        Declarator::suffixed(&mut self.trees, Suffix::Takes, inner, mark, height)
+    }
+
+    // Parameters in a scope of their own, and what they declare; up to their closing parenthesis.
+    #[cycle(parse)]
+    fn scoped_parameters(&mut self, budget: usize) -> Result<usize, Stop>
+        ensures { GivesScoped (scoped_at budget (below budget)) budget self.old self.new result }
     {
         self.names.open()?;
-        let row = self.parameters(next_lower(budget))?;
-        let declared = self.names.take_innermost()?;
+        let height = self.parameters(budget)?;
+        self.parameters = self.names.take_innermost()?;
         self.expect(Punct::RightParenthesis)?;
-        Ok(Declarator::takes(self.alloc, x, row, declared)?)
+        Ok(height)
     }
 
     // parameters = parameter { "," parameter }
     #[cycle(parse)]
-    fn parameters(&mut self, budget: usize) -> Result<Parts, Stop>
-        ensures reading { GivesAll (reading.rows_in budget (below budget) reading.parameters self.old.names self.old.rest.now) self.new.rest.now result }
-        ensures names { IfOk result (λ parts. self.new.names ≡ add self.old.names (scopes.parameter_entries (forest_of (map seen parts.trees.items)))) }
-        ensures height { IfOk result (λ parts. parts.height ≤ budget) }
-        ensures shorter { OnOk result (length self.new.rest.now < length self.old.rest.now) }
-        ensures declares { IfOk result (λ parts. entries_behind false (forest_of (map seen parts.trees.items)) ≡ []) }
+    fn parameters(&mut self, budget: usize) -> Result<usize, Stop>
+        ensures { GivesParameterRow (reading.rows_in budget (below budget) reading.parameters) budget self.old self.new result }
     {
-        let mut row = Parts::new(self.alloc);
-        row.push(self.parameter(budget)?)?;
+        let mut height = self.parameter(budget)?.height;
         while self.at_mark(Punct::Comma) {
             self.advance();
-            row.push(self.parameter(budget)?)?;
+            height = height.max(self.parameter(budget)?.height);
         }
-        Ok(row)
+        Ok(height)
     }
 
     // parameter = specs [ declarator | abstract declarator ]
     #[cycle(parse)]
     fn parameter(&mut self, budget: usize) -> Result<Part, Stop>
-        ensures reading { Gives (reading.parameter_in budget (below budget) self.old.names self.old.rest.now) self.new.rest.now result }
-        ensures names { IfOk result (λ part. self.new.names ≡ scopes.after_parameter self.old.names (seen part.tree)) }
-        ensures height { IfOk result (λ part. part.height ≤ budget) }
-        ensures shorter { OnOk result (length self.new.rest.now < length self.old.rest.now) }
-        ensures kind { IfOk result (λ part. part.kind ≡ kind.Param) }
+        ensures { GivesParameter (reading.parameter_in budget (below budget)) budget self.old self.new result }
     {
         let specs = self.specs(next_lower(budget))?.part;
-        let x = self.declared(Mode::Either, next_lower(budget))?;
-        self.names.add(x.name, false)?;
-        Ok(above_two(self.alloc, SynKind::Param, "", specs.start, specs, x.part)?)
+        let declarator = self.declared(Mode::Either, next_lower(budget))?;
+        self.names.add(declarator.name, false)?;
+        let (start, declared) = (specs.start, declarator.part);
+        above_two(&mut self.trees, SynKind::Param, "", start, specs, declared)
     }
 }

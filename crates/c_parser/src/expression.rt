@@ -1,32 +1,30 @@
 // Expressions. C99 6.5.
-#![tactic(auto, unfolding(c_grammar::specs::Answers::and_then, c_grammar::specs::Answers::fit, c_grammar::specs::Reading::level, c_grammar::specs::Reading::goal_in, c_grammar::specs::Reading::rows_in, c_grammar::specs::Answers::ahead, c_grammar::specs::Answers::ahead_by, c_grammar::specs::Reading::is_unary_by, c_grammar::specs::Reading::expression_in, c_grammar::specs::Reading::comma_by, c_grammar::specs::Reading::assignment_in, c_grammar::specs::Reading::assigned_by, c_grammar::specs::Reading::conditional_in, c_grammar::specs::Reading::choice_by, c_grammar::specs::Reading::binary_in, c_grammar::specs::Reading::operands, c_grammar::specs::Reading::operand_by, c_grammar::specs::Reading::cast_in, c_grammar::specs::Reading::cast_by, c_grammar::specs::Reading::unary_in, c_grammar::specs::Reading::unary_by, c_grammar::specs::Reading::size_in, c_grammar::specs::Reading::postfix_in, c_grammar::specs::Reading::suffixes, c_grammar::specs::Reading::suffix_by, c_grammar::specs::Reading::primary_by, c_grammar::specs::Reading::arguments_in, c_grammar::specs::Reading::listed, c_grammar::specs::Reading::optional_expression_in, c_grammar::specs::Reading::if_any))]
-
-ghost use Rattle.std.specs.Prelude.{◌≡◌, ◌≤◌, ◌<◌, ◌∷◌, true, suc, length, IfOk, OnOk, false, ◌^◌, ◌-◌, map, IfSome, IfNone};
-ghost use Rattle.c_types.specs.Trees.{one, seen, forest_of};
-ghost use Rattle.c_grammar.specs.Scopes.{Names, add, after, entries_behind};
+ghost use Rattle.std.specs.Prelude.{◌≡◌, ◌≤◌, ◌<◌, ◌+◌, ◌^◌, ◌-◌, ◌∷◌, true, false, suc, length, IfSome, IfNone};
+ghost use Rattle.c_syntax.specs.Trees.{constant_node};
 ghost use Rattle.c_grammar.specs.Answers.{ahead, found, fit};
 ghost use Rattle.c_grammar.specs.Reading.{below};
-ghost use Rattle.c_parser.specs.Gives.{Gives, GivesAll};
 ghost use Rattle.c_lexer.specs.declared.token.Punct.TheVariants.{LeftParenthesis, Question, Comma};
 ghost use Rattle.c_grammar.specs.Vocabulary.{Place, is_assignment};
-ghost use Rattle.c_parser.specs.Steps.{begins_suffix, begins_string, assigns_by, no_operator, cast_to, size_in_at, indexed, called, selected};
-ghost use Rattle.c_parts.specs.Nodes.{constant_node, leaves_names};
+ghost use Rattle.c_parser.specs.Gives.{GivesPart, GivesPartOrNone, GivesLonger, GivesPartsOrNone};
+ghost use Rattle.c_parser.specs.Steps.{begins_suffix, begins_string, assigns_by, no_operator, comma_at, assigned_at, choice_at, operand_at, cast_to, size_in_at, suffix_at, indexed, called, selected, primary_at, constant_at, size_of_operand, size_of_type, marked_at, operated_at};
+ghost use Rattle.c_parts.specs.Nodes.{leaves_names, declares_nothing};
 ghost use Rattle.c_grammar.specs.Reading as reading;
 ghost use Rattle.c_grammar.specs.Vocabulary as vocabulary;
 
 use crate::parser::Parser;
 use c_lexer::{Punct, TokenKind, mark_text};
 use c_parts::{
-    Part, Parts, Stop, above, above_row, above_three, above_two, constant, is_assignment,
-    is_unary_operator, leaf, level_of, literal, within, within_above,
+    Part, Stop, above, above_first, above_three, above_two, constant, is_assignment,
+    is_unary_operator, leaf, level_of, literal, within,
 };
-use c_types::SynKind;
+use c_syntax::SynKind;
 use cp_base::Bytes;
 
 // The level of the binary operators that bind least.
 const LOOSEST: usize = 10;
 
 // Of the trees that `conditional` gives, those of this kind are unary expressions.
+#[tactic(auto, unfolding(c_grammar::specs::Reading::is_unary_by))]
 fn is_unary(kind: SynKind) -> bool
     ensures { result ≡ reading.is_unary_by kind }
 {
@@ -38,143 +36,136 @@ impl<'a> Parser<'a> {
     // expr = assign { "," assign }
     #[cycle(parse)]
     pub fn expression(&mut self, budget: usize) -> Result<Part, Stop>
-        ensures reading { Gives (reading.expression_in budget (below budget) self.old.names self.old.rest.now) self.new.rest.now result }
-        ensures names { IfOk result (λ part. self.new.names ≡ after self.old.names (seen part.tree)) }
-        ensures height { IfOk result (λ part. part.height ≤ budget) }
-        ensures shorter { OnOk result (length self.new.rest.now < length self.old.rest.now) }
+        ensures { GivesPart (reading.expression_in budget (below budget)) budget self.old self.new result }
     {
-        let mut part = self.assignment(budget)?;
+        let mut operands = self.assignment(budget)?;
         while self.at_mark(Punct::Comma) {
-            part = self.comma(part, budget)?;
+            operands = self.comma(operands, budget)?;
         }
-        Ok(part)
+        Ok(operands)
     }
 
     // One comma and the operand behind it.
-    #[tactic(auto, unfolding(c_grammar::specs::Answers::and_then, c_grammar::specs::Answers::fit, c_grammar::specs::Reading::level, c_grammar::specs::Reading::goal_in, c_grammar::specs::Reading::rows_in, c_grammar::specs::Answers::ahead, c_grammar::specs::Answers::ahead_by, c_grammar::specs::Reading::comma_by))]
     #[cycle(parse)]
-    fn comma(&mut self, x: Part, budget: usize) -> Result<Part, Stop>
+    fn comma(&mut self, left: Part, budget: usize) -> Result<Part, Stop>
         requires { reading.begins_with_mark Comma self.now.rest.now ≡ true }
-        ensures reading { (names : Names) → self.old.names ≡ after names (seen x.tree) → Gives (reading.comma_by budget (below budget) names (seen x.tree) self.old.rest.now found (ahead self.old.rest.now)) self.new.rest.now result }
-        ensures names { (names : Names) → self.old.names ≡ after names (seen x.tree) → IfOk result (λ part. self.new.names ≡ after names (seen part.tree)) }
-        ensures height { IfOk result (λ part. part.height ≤ budget) }
-        ensures above { IfOk result (λ part. x.height < part.height) }
-        ensures shorter { OnOk result (length self.new.rest.now < length self.old.rest.now) }
+        ensures { GivesLonger (comma_at budget (below budget)) budget left self.old self.new result }
     {
-        self.advance();
-        let lower = within_above(x.height, budget)?;
-        let y = self.assignment(lower)?;
-        Ok(above_two(self.alloc, SynKind::Comma, "", x.start, x, y)?)
+        let lower = self.enter(left.height, budget)?;
+        let right = self.assignment(lower)?;
+        above_two(&mut self.trees, SynKind::Comma, "", left.start, left, right)
     }
 
     /// An expression without a comma.
     // assign = cond | unary assignop assign
     #[cycle(parse)]
     pub fn assignment(&mut self, budget: usize) -> Result<Part, Stop>
-        ensures reading { Gives (reading.assignment_in budget (below budget) self.old.names self.old.rest.now) self.new.rest.now result }
-        ensures names { IfOk result (λ part. self.new.names ≡ after self.old.names (seen part.tree)) }
-        ensures height { IfOk result (λ part. part.height ≤ budget) }
-        ensures shorter { OnOk result (length self.new.rest.now < length self.old.rest.now) }
+        ensures { GivesPart (reading.assignment_in budget (below budget)) budget self.old self.new result }
     {
-        let x = self.conditional(budget)?;
+        let target = self.conditional(budget)?;
         match self.assignment_operator() {
-            Some(mark) if is_unary(x.kind) => self.assigned(x, mark, budget),
-            _ => Ok(x),
+            Some(mark) if is_unary(target.kind) => self.assigned(target, mark, budget),
+            _ => Ok(target),
         }
     }
 
     // An assignment, from its operator on.
-    #[tactic(auto, unfolding(c_grammar::specs::Answers::and_then, c_grammar::specs::Answers::fit, c_grammar::specs::Reading::level, c_grammar::specs::Reading::goal_in, c_grammar::specs::Reading::rows_in, c_grammar::specs::Answers::ahead, c_grammar::specs::Answers::ahead_by, c_grammar::specs::Reading::assigned_by))]
     #[cycle(parse)]
-    fn assigned(&mut self, x: Part, mark: Punct, budget: usize) -> Result<Part, Stop>
+    fn assigned(&mut self, target: Part, mark: Punct, budget: usize) -> Result<Part, Stop>
         requires assigns { (is_assignment mark ≡ true) × ((at : Place) × (self.now.rest.now ≡ vocabulary.mark mark at ∷ reading.behind_one self.now.rest.now)) }
-        requires unary { reading.is_unary_by x.kind ≡ true }
-        ensures reading { (names : Names) → self.old.names ≡ after names (seen x.tree) → Gives (reading.assigned_by budget (below budget) names (seen x.tree) self.old.rest.now (ahead self.old.rest.now)) self.new.rest.now result }
-        ensures names { (names : Names) → self.old.names ≡ after names (seen x.tree) → IfOk result (λ part. self.new.names ≡ after names (seen part.tree)) }
-        ensures height { IfOk result (λ part. part.height ≤ budget) }
-        ensures shorter { OnOk result (length self.new.rest.now < length self.old.rest.now) }
+        requires unary { reading.is_unary_by target.kind ≡ true }
+        ensures { GivesLonger (assigned_at budget (below budget)) budget target self.old self.new result }
     {
-        self.advance();
-        let lower = within_above(x.height, budget)?;
-        let y = self.assignment(lower)?;
-        Ok(above_two(self.alloc, SynKind::Assign, mark_text(mark), x.start, x, y)?)
+        let lower = self.enter(target.height, budget)?;
+        let value = self.assignment(lower)?;
+        let start = target.start;
+        above_two(
+            &mut self.trees,
+            SynKind::Assign,
+            mark_text(mark),
+            start,
+            target,
+            value,
+        )
     }
 
     /// An expression without assignments.
     // cond = binary(10) [ "?" expr ":" cond ]
     #[cycle(parse)]
     pub fn conditional(&mut self, budget: usize) -> Result<Part, Stop>
-        ensures reading { Gives (reading.conditional_in budget (below budget) self.old.names self.old.rest.now) self.new.rest.now result }
-        ensures names { IfOk result (λ part. self.new.names ≡ after self.old.names (seen part.tree)) }
-        ensures height { IfOk result (λ part. part.height ≤ budget) }
-        ensures shorter { OnOk result (length self.new.rest.now < length self.old.rest.now) }
+        ensures { GivesPart (reading.conditional_in budget (below budget)) budget self.old self.new result }
     {
-        let x = self.binary(LOOSEST, budget)?;
+        let condition = self.binary(LOOSEST, budget)?;
         if self.at_mark(Punct::Question) {
-            return self.choice(x, budget);
+            return self.choice(condition, budget);
         }
-        Ok(x)
+        Ok(condition)
     }
 
     // A choice, from its mark on.
-    #[tactic(auto, unfolding(c_grammar::specs::Answers::and_then, c_grammar::specs::Answers::fit, c_grammar::specs::Reading::level, c_grammar::specs::Reading::goal_in, c_grammar::specs::Reading::rows_in, c_grammar::specs::Answers::ahead, c_grammar::specs::Answers::ahead_by, c_grammar::specs::Reading::choice_by))]
     #[cycle(parse)]
-    fn choice(&mut self, x: Part, budget: usize) -> Result<Part, Stop>
+    fn choice(&mut self, condition: Part, budget: usize) -> Result<Part, Stop>
         requires { reading.begins_with_mark Question self.now.rest.now ≡ true }
-        ensures reading { (names : Names) → self.old.names ≡ after names (seen x.tree) → Gives (reading.choice_by budget (below budget) names (seen x.tree) self.old.rest.now (ahead self.old.rest.now)) self.new.rest.now result }
-        ensures names { (names : Names) → self.old.names ≡ after names (seen x.tree) → IfOk result (λ part. self.new.names ≡ after names (seen part.tree)) }
-        ensures height { IfOk result (λ part. part.height ≤ budget) }
-        ensures shorter { OnOk result (length self.new.rest.now < length self.old.rest.now) }
+        ensures { GivesLonger (choice_at budget (below budget)) budget condition self.old self.new result }
     {
-        self.advance();
-        let lower = within_above(x.height, budget)?;
-        let y = self.expression(lower)?;
+        let lower = self.enter(condition.height, budget)?;
+        let then = self.expression(lower)?;
         self.expect(Punct::Colon)?;
-        let z = self.conditional(lower)?;
-        Ok(above_three(self.alloc, SynKind::Cond, "", x.start, x, y, z)?)
+        let other = self.conditional(lower)?;
+        above_three(
+            &mut self.trees,
+            SynKind::Cond,
+            condition.start,
+            condition,
+            then,
+            other,
+        )
     }
 
     /// An expression of binary operators up to this level.
     // binary(n) = binary(n - 1) { operator of level n, binary(n - 1) }
     #[cycle(parse)]
     fn binary(&mut self, loosest: usize, budget: usize) -> Result<Part, Stop>
-        ensures reading { Gives (reading.binary_in budget (below budget) loosest self.old.names self.old.rest.now) self.new.rest.now result }
-        ensures names { IfOk result (λ part. self.new.names ≡ after self.old.names (seen part.tree)) }
-        ensures height { IfOk result (λ part. part.height ≤ budget) }
-        ensures shorter { OnOk result (length self.new.rest.now < length self.old.rest.now) }
+        ensures { GivesPart (reading.binary_in budget (below budget) loosest) budget self.old self.new result }
     {
-        let mut part = self.cast(budget)?;
+        let mut operands = self.cast(budget)?;
         let mut tightest = 1;
         while let Some((mark, level)) = self.operator(tightest, loosest) {
-            part = self.operand(part, mark, level, budget)?;
+            operands = self.operand(operands, mark, level, budget)?;
             tightest = level;
         }
-        Ok(part)
+        Ok(operands)
     }
 
     // An operator of this level, and the operand behind it.
     #[cycle(parse)]
-    fn operand(&mut self, x: Part, mark: Punct, level: usize, budget: usize) -> Result<Part, Stop>
+    fn operand(
+        &mut self,
+        left: Part,
+        mark: Punct,
+        level: usize,
+        budget: usize,
+    ) -> Result<Part, Stop>
         requires { (1 ≤ level) × ((vocabulary.level_of mark ≡ level) × ((at : Place) × (self.now.rest.now ≡ vocabulary.mark mark at ∷ reading.behind_one self.now.rest.now))) }
-        ensures reading { (names : Names) → self.old.names ≡ after names (seen x.tree) → Gives (reading.operand_by budget (below budget) (level - 1) names (seen x.tree) self.old.rest.now found (ahead self.old.rest.now)) self.new.rest.now result }
-        ensures names { (names : Names) → self.old.names ≡ after names (seen x.tree) → IfOk result (λ part. self.new.names ≡ after names (seen part.tree)) }
-        ensures height { IfOk result (λ part. part.height ≤ budget) }
-        ensures above { IfOk result (λ part. x.height < part.height) }
-        ensures shorter { OnOk result (length self.new.rest.now < length self.old.rest.now) }
+        ensures { GivesLonger (operand_at budget (below budget) (level - 1)) budget left self.old self.new result }
     {
-        self.advance();
-        let lower = within_above(x.height, budget)?;
-        let y = self.binary(level - 1, lower)?;
-        Ok(above_two(self.alloc, SynKind::Binary, mark_text(mark), x.start, x, y)?)
+        let lower = self.enter(left.height, budget)?;
+        let right = self.binary(level - 1, lower)?;
+        let start = left.start;
+        above_two(
+            &mut self.trees,
+            SynKind::Binary,
+            mark_text(mark),
+            start,
+            left,
+            right,
+        )
     }
 
     // cast = unary | "(" type_name ")" cast
     #[cycle(parse)]
     fn cast(&mut self, budget: usize) -> Result<Part, Stop>
-        ensures reading { Gives (reading.cast_in budget (below budget) self.old.names self.old.rest.now) self.new.rest.now result }
-        ensures names { IfOk result (λ part. self.new.names ≡ after self.old.names (seen part.tree)) }
-        ensures height { IfOk result (λ part. part.height ≤ budget) }
-        ensures shorter { OnOk result (length self.new.rest.now < length self.old.rest.now) }
+        ensures { GivesPart (reading.cast_in budget (below budget)) budget self.old self.new result }
     {
         if !self.at_mark(Punct::LeftParenthesis) {
             return self.unary(budget);
@@ -191,25 +182,19 @@ impl<'a> Parser<'a> {
     // A cast, from behind its parenthesis.
     #[cycle(parse)]
     fn cast_to(&mut self, start: usize, budget: usize) -> Result<Part, Stop>
-        ensures reading { Gives (cast_to budget (below budget) self.old.names start self.old.rest.now) self.new.rest.now result }
-        ensures names { IfOk result (λ part. self.new.names ≡ after self.old.names (seen part.tree)) }
-        ensures height { IfOk result (λ part. part.height ≤ budget) }
-        ensures shorter { OnOk result (length self.new.rest.now < length self.old.rest.now) }
+        ensures { GivesPart (cast_to budget (below budget) start) budget self.old self.new result }
     {
-        let lower = within(2, budget)?;
-        let t = self.type_name(lower)?;
+        let lower = within(1, budget)?;
+        let target = self.type_name(lower)?;
         self.expect(Punct::RightParenthesis)?;
-        let x = self.cast(lower)?;
-        Ok(above_two(self.alloc, SynKind::Cast, "", start, t, x)?)
+        let operand = self.cast(lower)?;
+        above_two(&mut self.trees, SynKind::Cast, "", start, target, operand)
     }
 
     // unary = postfix | "++" unary | "--" unary | unop cast | "sizeof" unary | "sizeof" "(" type_name ")"
     #[cycle(parse)]
     fn unary(&mut self, budget: usize) -> Result<Part, Stop>
-        ensures reading { Gives (reading.unary_in budget (below budget) self.old.names self.old.rest.now) self.new.rest.now result }
-        ensures names { IfOk result (λ part. self.new.names ≡ after self.old.names (seen part.tree)) }
-        ensures height { IfOk result (λ part. part.height ≤ budget) }
-        ensures shorter { OnOk result (length self.new.rest.now < length self.old.rest.now) }
+        ensures { GivesPart (reading.unary_in budget (below budget)) budget self.old self.new result }
     {
         let Some(token) = self.peek() else {
             return self.postfix(budget);
@@ -217,8 +202,7 @@ impl<'a> Parser<'a> {
         match &token.kind {
             TokenKind::Punct(mark) => self.prefixed(*mark, token.start, budget),
             TokenKind::Word(name) if name.as_slice() == "sizeof" => {
-                self.advance();
-                let lower = within(2, budget)?;
+                let lower = self.enter(1, budget)?;
                 self.size_of(token.start, lower, budget)
             }
             _ => self.postfix(budget),
@@ -226,149 +210,176 @@ impl<'a> Parser<'a> {
     }
 
     // What begins with this mark.
-    #[tactic(auto, unfolding(c_grammar::specs::Answers::and_then, c_grammar::specs::Answers::fit, c_grammar::specs::Reading::level, c_grammar::specs::Reading::goal_in, c_grammar::specs::Reading::rows_in, c_grammar::specs::Answers::ahead, c_grammar::specs::Answers::ahead_by, c_grammar::specs::Reading::unary_in, c_grammar::specs::Reading::unary_by))]
     #[cycle(parse)]
     fn prefixed(&mut self, mark: Punct, start: usize, budget: usize) -> Result<Part, Stop>
         requires { (at : Place) × ((self.now.rest.now ≡ vocabulary.mark mark at ∷ reading.behind_one self.now.rest.now) × (start ≡ at.start)) }
-        ensures reading { Gives (reading.unary_in budget (below budget) self.old.names self.old.rest.now) self.new.rest.now result }
-        ensures names { IfOk result (λ part. self.new.names ≡ after self.old.names (seen part.tree)) }
-        ensures height { IfOk result (λ part. part.height ≤ budget) }
-        ensures shorter { OnOk result (length self.new.rest.now < length self.old.rest.now) }
+        ensures { GivesPart (reading.unary_in budget (below budget)) budget self.old self.new result }
     {
-        let is_step = matches!(mark, Punct::PlusPlus | Punct::MinusMinus);
-        if !is_step && !is_unary_operator(mark) {
+        match mark {
+            Punct::PlusPlus => self.stepped("++", start, budget),
+            Punct::MinusMinus => self.stepped("--", start, budget),
+            _ => self.operated(mark, start, budget),
+        }
+    }
+
+    // What begins with this mark, which is no step.
+    #[cycle(parse)]
+    fn operated(&mut self, mark: Punct, start: usize, budget: usize) -> Result<Part, Stop>
+        ensures { GivesPart (operated_at budget (below budget) mark start) budget self.old self.new result }
+    {
+        if !is_unary_operator(mark) {
             return self.postfix(budget);
         }
-        self.advance();
-        let lower = within(2, budget)?;
-        let x = if is_step {
-            self.unary(lower)?
-        } else {
-            self.cast(lower)?
-        };
-        Ok(above(self.alloc, SynKind::Unary, mark_text(mark), start, x)?)
+        let lower = self.enter(1, budget)?;
+        let operand = self.cast(lower)?;
+        above(
+            &mut self.trees,
+            SynKind::Unary,
+            mark_text(mark),
+            start,
+            operand,
+        )
+    }
+
+    // A step before its operand.
+    #[cycle(parse)]
+    fn stepped(&mut self, text: &str, start: usize, budget: usize) -> Result<Part, Stop>
+        ensures { GivesPart (marked_at budget (below budget) reading.unary text.now start) budget self.old self.new result }
+    {
+        let lower = self.enter(1, budget)?;
+        let operand = self.unary(lower)?;
+        above(&mut self.trees, SynKind::Unary, text, start, operand)
     }
 
     // What stands behind `sizeof`.
     #[cycle(parse)]
     fn size_of(&mut self, start: usize, lower: usize, budget: usize) -> Result<Part, Stop>
-        requires { (1 ≤ budget) × ((lower < budget) × (below budget ≡ reading.level lower (below lower))) }
-        ensures reading { Gives (size_in_at budget (below budget) self.old.names start self.old.rest.now) self.new.rest.now result }
-        ensures names { IfOk result (λ part. self.new.names ≡ after self.old.names (seen part.tree)) }
-        ensures height { IfOk result (λ part. part.height ≤ budget) }
-        ensures shorter { OnOk result (length self.new.rest.now < length self.old.rest.now) }
+        requires { (budget ≡ suc lower) × (below budget ≡ reading.level lower (below lower)) }
+        ensures { GivesPart (size_in_at budget (below budget) start) budget self.old self.new result }
     {
         if !self.at_mark(Punct::LeftParenthesis) {
-            let x = self.unary(lower)?;
-            return Ok(above(self.alloc, SynKind::SizeExpr, "", start, x)?);
+            return self.size_of_operand(start, lower);
         }
         let here = self.rest;
-        self.advance();
-        within(3, budget)?;
+        self.enter(2, budget)?;
         if self.begins_specifier(false) {
-            let t = self.type_name(lower)?;
-            self.expect(Punct::RightParenthesis)?;
-            return Ok(above(self.alloc, SynKind::SizeType, "", start, t)?);
+            return self.size_of_type(start, lower);
         }
         self.rest = here;
-        let x = self.unary(lower)?;
-        Ok(above(self.alloc, SynKind::SizeExpr, "", start, x)?)
+        self.size_of_operand(start, lower)
+    }
+
+    // The size of an operand.
+    #[cycle(parse)]
+    fn size_of_operand(&mut self, start: usize, lower: usize) -> Result<Part, Stop>
+        requires { suc lower < 2 ^ 64 }
+        ensures { GivesPart (size_of_operand (reading.level lower (below lower)) start) (suc lower) self.old self.new result }
+    {
+        let operand = self.unary(lower)?;
+        above(&mut self.trees, SynKind::SizeExpr, "", start, operand)
+    }
+
+    // The size of a type, from behind its parenthesis.
+    #[cycle(parse)]
+    fn size_of_type(&mut self, start: usize, lower: usize) -> Result<Part, Stop>
+        requires { suc lower < 2 ^ 64 }
+        ensures { GivesPart (size_of_type (reading.level lower (below lower)) start) (suc lower) self.old self.new result }
+    {
+        let target = self.type_name(lower)?;
+        self.expect(Punct::RightParenthesis)?;
+        above(&mut self.trees, SynKind::SizeType, "", start, target)
     }
 
     // postfix = primary { "[" expr "]" | "(" arguments ")" | "." name | "->" name | "++" | "--" }
     #[cycle(parse)]
     fn postfix(&mut self, budget: usize) -> Result<Part, Stop>
-        ensures reading { Gives (reading.postfix_in budget (below budget) self.old.names self.old.rest.now) self.new.rest.now result }
-        ensures names { IfOk result (λ part. self.new.names ≡ after self.old.names (seen part.tree)) }
-        ensures height { IfOk result (λ part. part.height ≤ budget) }
-        ensures shorter { OnOk result (length self.new.rest.now < length self.old.rest.now) }
+        ensures { GivesPart (reading.postfix_in budget (below budget)) budget self.old self.new result }
     {
-        let mut part = self.primary(budget)?;
+        let mut operand = self.primary(budget)?;
         while self.begins_suffix() {
-            part = self.suffix(part, budget)?;
+            operand = self.suffix(operand, budget)?;
         }
-        Ok(part)
+        Ok(operand)
     }
 
     // One suffix more.
-    #[tactic(auto, unfolding(c_grammar::specs::Answers::and_then, c_grammar::specs::Answers::fit, c_grammar::specs::Reading::level, c_grammar::specs::Reading::goal_in, c_grammar::specs::Reading::rows_in, c_grammar::specs::Answers::ahead, c_grammar::specs::Answers::ahead_by, c_grammar::specs::Reading::suffix_by))]
     #[cycle(parse)]
-    fn suffix(&mut self, x: Part, budget: usize) -> Result<Part, Stop>
+    fn suffix(&mut self, operand: Part, budget: usize) -> Result<Part, Stop>
         requires { begins_suffix (ahead self.now.rest.now) ≡ true }
-        ensures reading { (names : Names) → self.old.names ≡ after names (seen x.tree) → Gives (reading.suffix_by budget (below budget) names (seen x.tree) self.old.rest.now found (ahead self.old.rest.now)) self.new.rest.now result }
-        ensures names { (names : Names) → self.old.names ≡ after names (seen x.tree) → IfOk result (λ part. self.new.names ≡ after names (seen part.tree)) }
-        ensures height { IfOk result (λ part. part.height ≤ budget) }
-        ensures above { IfOk result (λ part. x.height < part.height) }
-        ensures shorter { OnOk result (length self.new.rest.now < length self.old.rest.now) }
+        ensures { GivesLonger (suffix_at budget (below budget)) budget operand self.old self.new result }
     {
         let Some(token) = self.peek() else {
             return Err(Stop::Wrong);
         };
-        self.advance();
-        let lower = within_above(x.height, budget)?;
-        match token.kind {
-            TokenKind::Punct(Punct::LeftBracket) => self.indexed(x, lower),
-            TokenKind::Punct(Punct::LeftParenthesis) => self.called(x, lower),
-            TokenKind::Punct(Punct::Dot) => self.selected(SynKind::Dot, x),
-            TokenKind::Punct(Punct::Arrow) => self.selected(SynKind::Arrow, x),
-            TokenKind::Punct(Punct::PlusPlus) => {
-                Ok(above(self.alloc, SynKind::Post, "++", x.start, x)?)
+        let TokenKind::Punct(mark) = token.kind else {
+            return Err(Stop::Wrong);
+        };
+        let lower = self.enter(operand.height, budget)?;
+        match mark {
+            Punct::LeftBracket => self.indexed(operand, lower),
+            Punct::LeftParenthesis => self.called(operand, lower),
+            Punct::Dot => self.selected(SynKind::Dot, operand),
+            Punct::Arrow => self.selected(SynKind::Arrow, operand),
+            Punct::PlusPlus => {
+                above(&mut self.trees, SynKind::Post, "++", operand.start, operand)
             }
-            _ => Ok(above(self.alloc, SynKind::Post, "--", x.start, x)?),
+            _ => above(&mut self.trees, SynKind::Post, "--", operand.start, operand),
         }
     }
 
     // An index, from behind its bracket.
     #[cycle(parse)]
-    fn indexed(&mut self, x: Part, lower: usize) -> Result<Part, Stop>
-        requires fits { x.height ≤ lower }
+    fn indexed(&mut self, array: Part, lower: usize) -> Result<Part, Stop>
+        requires fits { array.height ≤ lower }
         requires small { suc lower < 2 ^ 64 }
-        ensures reading { Gives (indexed (reading.level lower (below lower)) self.old.names (seen x.tree) self.old.rest.now) self.new.rest.now result }
-        ensures names { (names : Names) → self.old.names ≡ after names (seen x.tree) → IfOk result (λ part. self.new.names ≡ after names (seen part.tree)) }
-        ensures height { IfOk result (λ part. part.height ≤ suc lower) }
-        ensures above { IfOk result (λ part. x.height < part.height) }
-        ensures shorter { OnOk result (length self.new.rest.now < length self.old.rest.now) }
+        ensures { GivesLonger (indexed (reading.level lower (below lower))) (suc lower) array self.old self.new result }
     {
-        let y = self.expression(lower)?;
+        let index = self.expression(lower)?;
         self.expect(Punct::RightBracket)?;
-        Ok(above_two(self.alloc, SynKind::Index, "", x.start, x, y)?)
+        above_two(
+            &mut self.trees,
+            SynKind::Index,
+            "",
+            array.start,
+            array,
+            index,
+        )
     }
 
     // A call, from behind its parenthesis.
     #[cycle(parse)]
-    fn called(&mut self, x: Part, lower: usize) -> Result<Part, Stop>
-        requires fits { x.height ≤ lower }
+    fn called(&mut self, function: Part, lower: usize) -> Result<Part, Stop>
+        requires fits { function.height ≤ lower }
         requires small { suc lower < 2 ^ 64 }
-        ensures reading { Gives (called (reading.level lower (below lower)) self.old.names (seen x.tree) self.old.rest.now) self.new.rest.now result }
-        ensures names { (names : Names) → self.old.names ≡ after names (seen x.tree) → IfOk result (λ part. self.new.names ≡ after names (seen part.tree)) }
-        ensures height { IfOk result (λ part. part.height ≤ suc lower) }
-        ensures above { IfOk result (λ part. x.height < part.height) }
-        ensures shorter { OnOk result (length self.new.rest.now < length self.old.rest.now) }
+        ensures { GivesLonger (called (reading.level lower (below lower))) (suc lower) function self.old self.new result }
     {
-        let arguments = self.arguments(lower)?;
+        let mark = self.trees.len();
+        let height = self.arguments(lower)?;
         self.expect(Punct::RightParenthesis)?;
-        Ok(above_row(self.alloc, SynKind::Call, x.start, x, arguments)?)
+        above_first(
+            &mut self.trees,
+            SynKind::Call,
+            function.start,
+            function,
+            mark,
+            height,
+        )
     }
 
     // A member, from behind its mark.
-    fn selected(&mut self, kind: SynKind, x: Part) -> Result<Part, Stop>
-        requires { suc x.height < 2 ^ 64 }
-        ensures reading { Gives (selected kind (seen x.tree) self.old.rest.now) self.new.rest.now result }
-        ensures names { self.new.names ≡ self.old.names }
-        ensures height { IfOk result (λ part. part.height ≡ suc x.height) }
-        ensures shorter { OnOk result (length self.new.rest.now < length self.old.rest.now) }
+    fn selected(&mut self, kind: SynKind, operand: Part) -> Result<Part, Stop>
+        requires small { suc operand.height < 2 ^ 64 }
+        requires quiet { declares_nothing kind ≡ true }
+        ensures { GivesLonger (selected kind) (suc operand.height) operand self.old self.new result }
     {
         let name = self.expect_identifier()?;
-        Ok(above(self.alloc, kind, name, x.start, x)?)
+        above(&mut self.trees, kind, name, operand.start, operand)
     }
 
     // primary = name | number | character | string { string } | "(" expr ")"
     #[cycle(parse)]
     fn primary(&mut self, budget: usize) -> Result<Part, Stop>
-        ensures reading { Gives (reading.primary_by budget (below budget) self.old.names self.old.rest.now (ahead self.old.rest.now)) self.new.rest.now result }
-        ensures names { IfOk result (λ part. self.new.names ≡ after self.old.names (seen part.tree)) }
-        ensures height { IfOk result (λ part. part.height ≤ budget) }
-        ensures shorter { OnOk result (length self.new.rest.now < length self.old.rest.now) }
+        ensures { GivesPart (primary_at budget (below budget)) budget self.old self.new result }
     {
         let Some(token) = self.peek() else {
             return Err(Stop::Wrong);
@@ -380,25 +391,23 @@ impl<'a> Parser<'a> {
             }
             TokenKind::Char(value) => self.constant(SynKind::Char, *value, token.start, budget),
             TokenKind::Str(bytes) => self.string(bytes, token.start, budget),
-            TokenKind::Punct(Punct::LeftParenthesis) => self.parenthesized(token.start, budget),
-            TokenKind::Punct(_) => Err(Stop::Wrong),
+            TokenKind::Punct(mark) => match mark {
+                Punct::LeftParenthesis => self.parenthesized(token.start, budget),
+                _ => Err(Stop::Wrong),
+            },
         }
     }
 
     // A name that is no typedef name.
     fn variable(&mut self, text: &str, start: usize, budget: usize) -> Result<Part, Stop>
         requires { (at : Place) × ((self.now.rest.now ≡ vocabulary.word text.now at ∷ reading.behind_one self.now.rest.now) × (start ≡ at.start)) }
-        ensures reading { Gives (reading.primary_by budget (below budget) self.old.names self.old.rest.now (ahead self.old.rest.now)) self.new.rest.now result }
-        ensures names { IfOk result (λ part. self.new.names ≡ after self.old.names (seen part.tree)) }
-        ensures height { IfOk result (λ part. part.height ≤ budget) }
-        ensures shorter { OnOk result (length self.new.rest.now < length self.old.rest.now) }
+        ensures { GivesPart (primary_at budget (below budget)) budget self.old self.new result }
     {
         if !self.is_variable(text) {
             return Err(Stop::Wrong);
         }
-        self.advance();
-        within(1, budget)?;
-        Ok(leaf(self.alloc, SynKind::Var, text, start)?)
+        self.enter(0, budget)?;
+        leaf(&mut self.trees, SynKind::Var, text, start)
     }
 
     // A number or a character.
@@ -411,88 +420,69 @@ impl<'a> Parser<'a> {
     ) -> Result<Part, Stop>
         requires some { 1 ≤ length self.now.rest.now }
         requires leaf { leaves_names kind ≡ true }
-        ensures reading { Gives (fit 1 budget (reading.behind_one self.old.rest.now) (found (constant_node kind value start) (reading.behind_one self.old.rest.now))) self.new.rest.now result }
-        ensures names { IfOk result (λ part. self.new.names ≡ after self.old.names (seen part.tree)) }
-        ensures height { IfOk result (λ part. part.height ≤ budget) }
-        ensures shorter { OnOk result (length self.new.rest.now < length self.old.rest.now) }
+        ensures { GivesPart (constant_at budget kind value start) budget self.old self.new result }
     {
-        self.advance();
-        within(1, budget)?;
-        Ok(constant(self.alloc, kind, value, start))
+        self.enter(0, budget)?;
+        constant(&mut self.trees, kind, value, start)
     }
 
     // A string literal, with those next to it.
     fn string(&mut self, first: &Bytes, start: usize, budget: usize) -> Result<Part, Stop>
         requires { (at : Place) × ((self.now.rest.now ≡ vocabulary.string first.now at ∷ reading.behind_one self.now.rest.now) × (start ≡ at.start)) }
-        ensures reading { Gives (reading.primary_by budget (below budget) self.old.names self.old.rest.now (ahead self.old.rest.now)) self.new.rest.now result }
-        ensures names { IfOk result (λ part. self.new.names ≡ after self.old.names (seen part.tree)) }
-        ensures height { IfOk result (λ part. part.height ≤ budget) }
-        ensures shorter { OnOk result (length self.new.rest.now < length self.old.rest.now) }
+        ensures { GivesPart (primary_at budget (below budget)) budget self.old self.new result }
     {
-        self.advance();
-        within(1, budget)?;
+        self.enter(0, budget)?;
         let mut bytes = Bytes::new(self.alloc);
         bytes.push_all(first.as_slice())?;
         while let Some(more) = self.string_ahead() {
             bytes.push_all(more.as_slice())?;
             self.advance();
         }
-        Ok(literal(self.alloc, bytes, start))
+        literal(&mut self.trees, bytes, start)
     }
 
     // An expression in parentheses.
-    #[tactic(auto, unfolding(c_grammar::specs::Answers::and_then, c_grammar::specs::Answers::fit, c_grammar::specs::Reading::level, c_grammar::specs::Reading::goal_in, c_grammar::specs::Reading::rows_in, c_grammar::specs::Answers::ahead, c_grammar::specs::Answers::ahead_by, c_grammar::specs::Reading::primary_by))]
     #[cycle(parse)]
     fn parenthesized(&mut self, start: usize, budget: usize) -> Result<Part, Stop>
         requires { (at : Place) × ((self.now.rest.now ≡ vocabulary.mark LeftParenthesis at ∷ reading.behind_one self.now.rest.now) × (start ≡ at.start)) }
-        ensures reading { Gives (reading.primary_by budget (below budget) self.old.names self.old.rest.now (ahead self.old.rest.now)) self.new.rest.now result }
-        ensures names { IfOk result (λ part. self.new.names ≡ after self.old.names (seen part.tree)) }
-        ensures height { IfOk result (λ part. part.height ≤ budget) }
-        ensures shorter { OnOk result (length self.new.rest.now < length self.old.rest.now) }
+        ensures { GivesPart (primary_at budget (below budget)) budget self.old self.new result }
     {
-        self.advance();
-        let lower = within(2, budget)?;
+        let lower = self.enter(1, budget)?;
         let inner = self.expression(lower)?;
         self.expect(Punct::RightParenthesis)?;
-        Ok(above(self.alloc, SynKind::Paren, "", start, inner)?)
+        above(&mut self.trees, SynKind::Paren, "", start, inner)
     }
 
     // arguments = [ assign { "," assign } ]
     #[cycle(parse)]
-    fn arguments(&mut self, budget: usize) -> Result<Parts, Stop>
-        ensures reading { GivesAll (reading.arguments_in budget (below budget) self.old.names self.old.rest.now) self.new.rest.now result }
-        ensures names { IfOk result (λ parts. self.new.names ≡ add self.old.names (entries_behind false (forest_of (map seen parts.trees.items)))) }
-        ensures height { IfOk result (λ parts. parts.height ≤ budget) }
-        ensures shorter { OnOk result (length self.new.rest.now ≤ length self.old.rest.now) }
+    fn arguments(&mut self, budget: usize) -> Result<usize, Stop>
+        ensures { GivesPartsOrNone (reading.arguments_in budget (below budget)) budget self.old self.new result }
     {
-        let mut row = Parts::new(self.alloc);
         if self.at_mark(Punct::RightParenthesis) {
-            return Ok(row);
+            return Ok(0);
         }
-        row.push(self.assignment(budget)?)?;
+        let mut height = self.assignment(budget)?.height;
         while self.at_mark(Punct::Comma) {
             self.advance();
-            row.push(self.assignment(budget)?)?;
+            height = height.max(self.assignment(budget)?.height);
         }
-        Ok(row)
+        Ok(height)
     }
 
     /// An expression, or nothing before `;` or `)`.
     pub fn optional_expression(&mut self, budget: usize) -> Result<Part, Stop>
-        ensures reading { Gives (reading.optional_expression_in budget (below budget) self.old.names self.old.rest.now) self.new.rest.now result }
-        ensures names { IfOk result (λ part. self.new.names ≡ after self.old.names (seen part.tree)) }
-        ensures height { IfOk result (λ part. part.height ≤ budget) }
-        ensures shorter { OnOk result (length self.new.rest.now ≤ length self.old.rest.now) }
+        ensures { GivesPartOrNone (reading.optional_expression_in budget (below budget)) budget self.old self.new result }
     {
         if !self.at_mark(Punct::Semicolon) && !self.at_mark(Punct::RightParenthesis) {
             return self.expression(budget);
         }
-        within(1, budget)?;
+        within(0, budget)?;
         let start = self.start();
-        Ok(leaf(self.alloc, SynKind::Empty, "", start)?)
+        leaf(&mut self.trees, SynKind::Empty, "", start)
     }
 
     // The mark of an assignment, where one is ahead.
+    #[tactic(auto, unfolding(c_grammar::specs::Answers::ahead, c_grammar::specs::Answers::ahead_by))]
     fn assignment_operator(&self) -> Option<Punct>
         ensures some { IfSome result (λ mark. (vocabulary.is_assignment mark ≡ true) × ((at : Place) × (self.now.rest.now ≡ vocabulary.mark mark at ∷ reading.behind_one self.now.rest.now))) }
         ensures none { IfNone result (assigns_by (ahead self.now.rest.now) ≡ false) }
@@ -505,6 +495,7 @@ impl<'a> Parser<'a> {
     }
 
     // A binary operator ahead, and its level, which is one of these.
+    #[tactic(auto, unfolding(c_grammar::specs::Answers::ahead, c_grammar::specs::Answers::ahead_by))]
     fn operator(&self, tightest: usize, loosest: usize) -> Option<(Punct, usize)>
         requires { 1 ≤ tightest }
         ensures some { IfSome result (λ o. (tightest ≤ o.1) × ((o.1 ≤ loosest) × ((vocabulary.level_of o.0 ≡ o.1) × ((at : Place) × (self.now.rest.now ≡ vocabulary.mark o.0 at ∷ reading.behind_one self.now.rest.now))))) }
@@ -522,6 +513,7 @@ impl<'a> Parser<'a> {
     }
 
     // A suffix of a postfix expression is ahead.
+    #[tactic(auto, unfolding(c_grammar::specs::Answers::ahead, c_grammar::specs::Answers::ahead_by))]
     fn begins_suffix(&self) -> bool
         ensures { result ≡ begins_suffix (ahead self.now.rest.now) }
     {
@@ -542,6 +534,7 @@ impl<'a> Parser<'a> {
     }
 
     // The bytes of a string literal ahead.
+    #[tactic(auto, unfolding(c_grammar::specs::Answers::ahead, c_grammar::specs::Answers::ahead_by))]
     fn string_ahead(&self) -> Option<&'a Bytes>
         ensures some { IfSome result (λ bytes. (at : Place) × (self.now.rest.now ≡ vocabulary.string bytes.now at ∷ reading.behind_one self.now.rest.now)) }
         ensures none { IfNone result (begins_string (ahead self.now.rest.now) ≡ false) }

@@ -10,11 +10,10 @@
 // The invariant: a function answers as the reading function of `c_grammar` does with this budget, these
 // scopes and these tokens; the scopes behind it are those behind the tree, and the tree is within the budget.
 //
-// The theorem, on `parse`: the tree is one that is derived, of a height of at most 500. A token is wrong
-// only where the tokens have no tree, and no list has one that begins with the tokens up to that one, it
-// included. The tokens before a place are too deep only where each tree of each list that begins with them
-// is higher than 500, and one of these lists has a tree. So a list with a tree of at most 500 is answered
-// by it, want of memory apart.
+// The theorem, on `parse`: the tree is one that is derived, of a height of at most 500. After `Syntax` the
+// tokens have no tree, and however a unit goes on behind the token at the place, it has none. After `TooDeep`,
+// however a unit goes on behind the tokens before the place, its tree is higher than 500; and some unit that
+// begins with them has a tree. So tokens with a tree of at most 500 are answered by it, want of memory apart.
 //
 // `parser` has what is left of the unit; `expression`, `types`, `declared` (declarators), `declaration` and
 // `statement` have the rules, `unit` the call.
@@ -32,6 +31,3 @@ mod types;
 mod unit;
 
 pub use unit::{ParseFault, parse};
-
-#[cfg(test)]
-mod tests;

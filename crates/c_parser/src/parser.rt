@@ -1,27 +1,31 @@
 // The tokens that are left, and the scopes around their place.
-#![tactic(auto, unfolding(c_grammar::specs::Answers::ahead, c_grammar::specs::Answers::ahead_by, c_grammar::specs::Answers::expect, c_grammar::specs::Answers::expect_by, c_grammar::specs::Answers::expect_word, c_grammar::specs::Answers::expect_word_by, c_grammar::specs::Answers::expect_identifier, c_grammar::specs::Answers::expect_identifier_by, c_grammar::specs::Reading::begins_specifier_by))]
+#![tactic(auto, unfolding(c_grammar::specs::Answers::ahead, c_grammar::specs::Answers::ahead_by, c_grammar::specs::Answers::expect_identifier, c_grammar::specs::Answers::expect_identifier_by, c_grammar::specs::Reading::begins_specifier_by))]
 
-ghost use Rattle.std.specs.Prelude.{◌≡◌, ◌<◌, ◌∷◌, [], ℕ, List, false, length, IfOk, IfErr, IfSome, IfNone, OnOk, OnErr};
+ghost use Rattle.std.specs.Prelude.{◌≡◌, ◌∷◌, [], List, IfSome, IfNone};
 ghost use Rattle.c_lexer.specs.declared.token.Token.{Token};
-ghost use Rattle.c_types.specs.Trees.{Tree};
 ghost use Rattle.c_grammar.specs.Vocabulary.{start_of};
-ghost use Rattle.c_grammar.specs.Answers.{Answer, expect, expect_word, expect_identifier, wrong};
+ghost use Rattle.c_grammar.specs.Answers.{word_ahead};
 ghost use Rattle.c_grammar.specs.Reading.{behind_one, behind_const, begins_with_mark, begins_with_word};
 ghost use Rattle.c_grammar.specs.Vocabulary as vocabulary;
 ghost use Rattle.c_grammar.specs.Reading as reading;
-ghost use Rattle.c_parts.specs.declared.budget.Stop.TheVariants as stop;
+ghost use Rattle.c_parts.specs.Pushed.{Lowers};
+ghost use Rattle.c_parser.specs.Gives.{Keeps, Expects, ExpectsName};
 
 use c_lexer::{Punct, Token, TokenKind};
-use c_parts::{Stop, is_identifier, is_storage_word, is_type_word};
-use c_scopes::Scopes;
+use c_parts::{Stop, is_identifier, is_storage_word, is_type_word, within};
+use c_scopes::{Declared, Scopes};
+use c_syntax::SyntaxBuilder;
 use std::alloc::Global;
 
-/// What is left of a unit, and what its names mean there.
+/// What is left of a unit, what its names mean there, and the trees so far.
 #[derive(Drop)]
 pub struct Parser<'a> {
     pub alloc: Global,
     pub rest: &'a [Token],
     pub names: Scopes<'a>,
+    pub trees: SyntaxBuilder,
+    /// What the parameters next to the name of the last declarator declare.
+    pub parameters: Vec<Declared<'a>>,
 }
 
 impl<'a> Parser<'a> {
@@ -36,11 +40,22 @@ impl<'a> Parser<'a> {
     /// Goes behind the first token, where there is one.
     pub fn advance(&mut self)
         ensures rest { self.new.rest.now ≡ behind_one self.old.rest.now }
-        ensures names { self.new.names ≡ self.old.names }
+        ensures kept { Keeps self.old self.new }
     {
         if let Some((_, rest)) = self.rest.split_first() {
             self.rest = rest;
         }
+    }
+
+    /// Goes behind the first token, and gives the next lower budget where a node above a part of this height is within
+    /// the budget.
+    pub fn enter(&mut self, height: usize, budget: usize) -> Result<usize, Stop>
+        ensures rest { self.new.rest.now ≡ behind_one self.old.rest.now }
+        ensures kept { Keeps self.old self.new }
+        ensures lower { Lowers height budget result }
+    {
+        self.advance();
+        within(height, budget)
     }
 
     /// Where the first token begins; 0 where none is left.
@@ -94,7 +109,7 @@ impl<'a> Parser<'a> {
 
     // The word is one of the specs.
     fn is_specifier(&self, typed: bool, text: &str) -> bool
-        ensures { (at : vocabulary.Place) → (rest : List Token) → result ≡ reading.begins_specifier_by typed self.now.names (Rattle.c_grammar.specs.Answers.word_ahead text.now at rest) }
+        ensures { (at : vocabulary.Place) → (rest : List Token) → result ≡ reading.begins_specifier_by typed self.now.names (word_ahead text.now at rest) }
     {
         is_type_word(text)
             || is_storage_word(text)
@@ -112,12 +127,7 @@ impl<'a> Parser<'a> {
 
     /// Goes behind this mark; without it, stops.
     pub fn expect(&mut self, mark: Punct) -> Result<(), Stop>
-        ensures tree { OnOk result ((go : List Token → Answer Tree) → expect mark self.old.rest.now go ≡ go self.new.rest.now) }
-        ensures no_tree { OnErr result ((go : List Token → Answer Tree) → expect mark self.old.rest.now go ≡ wrong self.old.rest.now) }
-        ensures wrong { IfErr result (λ s. s ≡ stop.Wrong) }
-        ensures kept { OnErr result (self.new.rest.now ≡ self.old.rest.now) }
-        ensures names { self.new.names ≡ self.old.names }
-        ensures shorter { OnOk result (length self.new.rest.now < length self.old.rest.now) }
+        ensures { Expects (begins_with_mark mark self.old.rest.now) self.old self.new result }
     {
         if !self.at_mark(mark) {
             return Err(Stop::Wrong);
@@ -128,12 +138,7 @@ impl<'a> Parser<'a> {
 
     /// Goes behind this word; without it, stops.
     pub fn expect_word(&mut self, text: &str) -> Result<(), Stop>
-        ensures tree { OnOk result ((go : List Token → Answer Tree) → expect_word text.now self.old.rest.now go ≡ go self.new.rest.now) }
-        ensures no_tree { OnErr result ((go : List Token → Answer Tree) → expect_word text.now self.old.rest.now go ≡ wrong self.old.rest.now) }
-        ensures wrong { IfErr result (λ s. s ≡ stop.Wrong) }
-        ensures kept { OnErr result (self.new.rest.now ≡ self.old.rest.now) }
-        ensures names { self.new.names ≡ self.old.names }
-        ensures shorter { OnOk result (length self.new.rest.now < length self.old.rest.now) }
+        ensures { Expects (begins_with_word text.now self.old.rest.now) self.old self.new result }
     {
         if !self.at_word(text) {
             return Err(Stop::Wrong);
@@ -144,12 +149,7 @@ impl<'a> Parser<'a> {
 
     /// Goes behind a name; without one, stops.
     pub fn expect_identifier(&mut self) -> Result<&'a str, Stop>
-        ensures tree { IfOk result (λ text. (go : List ℕ → List Token → Answer Tree) → expect_identifier self.old.rest.now go ≡ go text.now self.new.rest.now) }
-        ensures no_tree { OnErr result ((go : List ℕ → List Token → Answer Tree) → expect_identifier self.old.rest.now go ≡ wrong self.old.rest.now) }
-        ensures wrong { IfErr result (λ s. s ≡ stop.Wrong) }
-        ensures kept { OnErr result (self.new.rest.now ≡ self.old.rest.now) }
-        ensures names { self.new.names ≡ self.old.names }
-        ensures shorter { OnOk result (length self.new.rest.now < length self.old.rest.now) }
+        ensures { ExpectsName self.old self.new result }
     {
         let Some(token) = self.peek() else {
             return Err(Stop::Wrong);
@@ -168,7 +168,7 @@ impl<'a> Parser<'a> {
     #[tactic(auto, using(crate::proofs::Tokens::behind_one_const, crate::proofs::Tokens::behind_no_const, crate::proofs::Tokens::shorter_word))]
     pub fn skip_const(&mut self)
         ensures rest { self.new.rest.now ≡ behind_const self.old.rest.now }
-        ensures names { self.new.names ≡ self.old.names }
+        ensures kept { Keeps self.old self.new }
     {
         while self.at_word("const") {
             self.advance();

@@ -1,66 +1,68 @@
 // Statements. C99 6.8.
-#![tactic(auto, unfolding(c_grammar::specs::Answers::and_then, c_grammar::specs::Answers::fit, c_grammar::specs::Reading::level, c_grammar::specs::Reading::goal_in, c_grammar::specs::Reading::rows_in, c_grammar::specs::Answers::ahead, c_grammar::specs::Answers::ahead_by, c_grammar::specs::Reading::body_by, c_grammar::specs::Reading::items_in, c_grammar::specs::Reading::statement_in, c_grammar::specs::Reading::statement_by, c_grammar::specs::Reading::keyword_by, c_grammar::specs::Reading::in_parentheses_then, c_grammar::specs::Reading::if_in, c_grammar::specs::Reading::while_in, c_grammar::specs::Reading::do_in, c_grammar::specs::Reading::for_in, c_grammar::specs::Reading::for_behind, c_grammar::specs::Reading::return_in, c_grammar::specs::Reading::expression_statement_in, c_grammar::specs::Reading::lower))]
-
-ghost use Rattle.std.specs.Prelude.{◌≡◌, ◌≤◌, ◌<◌, List, true, false, suc, length, map, IfOk, OnOk};
-ghost use Rattle.c_types.specs.Trees.{seen, forest_of, Tree};
-ghost use Rattle.c_grammar.specs.Scopes.{add, after, entries_behind, opened};
-ghost use Rattle.c_grammar.specs.Answers.{ahead, Answer};
+ghost use Rattle.std.specs.Prelude.{◌≡◌, ◌≤◌, ◌<◌, ◌^◌, true, false, suc, length};
 ghost use Rattle.c_grammar.specs.Reading.{below};
-ghost use Rattle.c_parser.specs.Gives.{Gives, GivesAll, GivesStatement, GivesBefore};
-ghost use Rattle.c_lexer.specs.declared.token.Token.{Token};
-ghost use Rattle.c_parser.specs.Steps.{item_of, keyword_of, if_of, while_of, do_of, for_of, for_first_of, return_of, jump_of, is_jump};
+ghost use Rattle.c_parser.specs.Gives.{GivesPart, GivesBody, GivesPartsOrNone, GivesStatement, GivesBranches, GivesFor, OpensBrace};
+ghost use Rattle.c_parser.specs.Steps.{body_at, block_at, items_of, item_of, keyword_of, if_of, then_of, while_of, do_of, for_of, for_parts_of, for_first_of, optional_before, condition_of, do_condition_of, return_of, empty_of, jump_of, is_jump, takes_else};
 ghost use Rattle.c_grammar.specs.Reading as reading;
-ghost use Rattle.c_types.specs.declared.kind.SynKind.TheVariants as kind;
 
 use crate::parser::Parser;
 use c_lexer::{Punct, TokenKind};
 use c_parts::{
-    Part, Parts, Statement, Stop, above, above_four, above_three, above_two, closed, leaf,
-    next_lower, node, within,
+    Part, Statement, Stop, above, above_four, above_row, above_three, above_two, leaf, next_lower,
 };
-use c_types::SynKind;
+use c_syntax::SynKind;
+
+// A statement that does not end in an `if` without an `else`.
+fn closed(part: Part) -> Statement
+    ensures { result ≡ record { part = part; ends_open = false } }
+{
+    Statement {
+        part,
+        ends_open: false,
+    }
+}
 
 impl<'a> Parser<'a> {
     /// Statements in braces, in the scope that there is.
     // block = "{" { declaration | statement } "}"
     #[cycle(statements)]
     pub fn body(&mut self, budget: usize) -> Result<Part, Stop>
-        ensures reading { Gives (reading.body_by budget (below budget) self.old.names self.old.rest.now (ahead self.old.rest.now)) self.new.rest.now result }
-        ensures names { IfOk result (λ part. self.new.names ≡ add self.old.names (entries_behind false (seen part.tree).kids)) }
-        ensures kind { IfOk result (λ part. part.kind ≡ kind.Block) }
-        ensures height { IfOk result (λ part. part.height ≤ budget) }
-        ensures shorter { OnOk result (length self.new.rest.now < length self.old.rest.now) }
+        ensures { GivesBody (body_at budget (below budget)) budget self.old self.new result }
     {
         let start = self.start();
-        self.expect(Punct::LeftBrace)?;
-        let lower = within(1, budget)?;
-        let items = self.block_items(lower)?;
+        let lower = self.open_brace(budget)?;
+        let mark = self.trees.len();
+        let height = self.block_items(lower)?;
         self.expect(Punct::RightBrace)?;
-        Ok(node(self.alloc, SynKind::Block, "", start, items)?)
+        above_row(&mut self.trees, SynKind::Block, "", start, mark, height)
+    }
+
+    // Goes behind a brace, and gives the next lower budget.
+    fn open_brace(&mut self, budget: usize) -> Result<usize, Stop>
+        ensures { OpensBrace budget self.old self.new result }
+    {
+        if !self.at_mark(Punct::LeftBrace) {
+            return Err(Stop::Wrong);
+        }
+        self.enter(0, budget)
     }
 
     // The declarations and statements of a block.
     #[cycle(statements)]
-    fn block_items(&mut self, budget: usize) -> Result<Parts, Stop>
-        ensures reading { GivesAll (reading.items_in budget (below budget) (suc (length self.old.rest.now)) self.old.names self.old.rest.now) self.new.rest.now result }
-        ensures names { IfOk result (λ parts. self.new.names ≡ add self.old.names (entries_behind false (forest_of (map seen parts.trees.items)))) }
-        ensures height { IfOk result (λ parts. parts.height ≤ budget) }
-        ensures shorter { OnOk result (length self.new.rest.now ≤ length self.old.rest.now) }
+    fn block_items(&mut self, budget: usize) -> Result<usize, Stop>
+        ensures { GivesPartsOrNone (items_of budget (below budget)) budget self.old self.new result }
     {
-        let mut row = Parts::new(self.alloc);
+        let mut height = 0;
         while !self.at_mark(Punct::RightBrace) {
-            row.push(self.block_item(budget)?)?;
+            height = self.block_item(budget)?.height.max(height);
         }
-        Ok(row)
+        Ok(height)
     }
 
     // One of them.
     #[cycle(statements)]
     fn block_item(&mut self, budget: usize) -> Result<Part, Stop>
-        ensures reading { Gives (item_of budget (below budget) self.old.names self.old.rest.now) self.new.rest.now result }
-        ensures names { IfOk result (λ part. self.new.names ≡ after self.old.names (seen part.tree)) }
-        ensures height { IfOk result (λ part. part.height ≤ budget) }
-        ensures shorter { OnOk result (length self.new.rest.now < length self.old.rest.now) }
+        ensures { GivesPart (item_of budget (below budget)) budget self.old self.new result }
     {
         if self.begins_specifier(false) {
             return self.declaration(budget);
@@ -71,21 +73,18 @@ impl<'a> Parser<'a> {
     /// A statement.
     #[cycle(statements)]
     fn statement(&mut self, budget: usize) -> Result<Statement, Stop>
-        ensures reading { GivesStatement (reading.statement_in budget (below budget) self.old.names self.old.rest.now) self.new.rest.now result }
-        ensures names { IfOk result (λ part. self.new.names ≡ after self.old.names (seen part.part.tree)) }
-        ensures height { IfOk result (λ part. part.part.height ≤ budget) }
-        ensures shorter { OnOk result (length self.new.rest.now < length self.old.rest.now) }
+        ensures { GivesStatement (reading.statement_in budget (below budget)) budget self.old self.new result }
     {
         let Some(token) = self.peek() else {
             return self.expression_statement(budget);
         };
+        if self.at_mark(Punct::LeftBrace) {
+            return self.block(budget);
+        }
+        if self.at_mark(Punct::Semicolon) {
+            return self.empty_statement(token.start, budget);
+        }
         match &token.kind {
-            TokenKind::Punct(Punct::LeftBrace) => self.block(budget),
-            TokenKind::Punct(Punct::Semicolon) => {
-                self.advance();
-                within(1, budget)?;
-                Ok(closed(leaf(self.alloc, SynKind::Empty, "", token.start)?))
-            }
             TokenKind::Word(name) => self.keyword(name.as_slice(), token.start, budget),
             _ => self.expression_statement(budget),
         }
@@ -94,25 +93,28 @@ impl<'a> Parser<'a> {
     // A block, with a scope of its own.
     #[cycle(statements)]
     fn block(&mut self, budget: usize) -> Result<Statement, Stop>
-        ensures reading { GivesStatement (reading.body_by budget (below budget) (opened self.old.names) self.old.rest.now (ahead self.old.rest.now)) self.new.rest.now result }
-        ensures names { IfOk result (λ part. self.new.names ≡ after self.old.names (seen part.part.tree)) }
-        ensures height { IfOk result (λ part. part.part.height ≤ budget) }
-        ensures shorter { OnOk result (length self.new.rest.now < length self.old.rest.now) }
+        ensures { GivesStatement (block_at budget (below budget)) budget self.old self.new result }
     {
         self.names.open()?;
-        let part = self.body(budget)?;
+        let block = self.body(budget)?;
         self.names.close();
-        Ok(closed(part))
+        Ok(closed(block))
+    }
+
+    // `;` alone.
+    fn empty_statement(&mut self, start: usize, budget: usize) -> Result<Statement, Stop>
+        requires { 1 ≤ length self.now.rest.now }
+        ensures { GivesStatement (empty_of budget start) budget self.old self.new result }
+    {
+        self.enter(0, budget)?;
+        Ok(closed(leaf(&mut self.trees, SynKind::Empty, "", start)?))
     }
 
     // A statement that begins with this word.
     #[cycle(statements)]
     fn keyword(&mut self, text: &str, start: usize, budget: usize) -> Result<Statement, Stop>
         requires { 1 ≤ length self.now.rest.now }
-        ensures reading { GivesStatement (keyword_of budget (below budget) self.old.names self.old.rest.now text.now start (reading.behind_one self.old.rest.now)) self.new.rest.now result }
-        ensures names { IfOk result (λ part. self.new.names ≡ after self.old.names (seen part.part.tree)) }
-        ensures height { IfOk result (λ part. part.part.height ≤ budget) }
-        ensures shorter { OnOk result (length self.new.rest.now < length self.old.rest.now) }
+        ensures { GivesStatement (keyword_of budget (below budget) text.now start) budget self.old self.new result }
     {
         if text == "if" {
             return self.if_statement(start, budget);
@@ -139,42 +141,57 @@ impl<'a> Parser<'a> {
     }
 
     // An expression in parentheses.
-    fn condition(&mut self, lower: usize) -> Result<Part, Stop>
-        ensures reading { (go : Tree → List Token → Answer Tree) → GivesBefore (reading.in_parentheses_then 0 (reading.level lower (below lower)) self.old.names self.old.rest.now go) go self.new.rest.now result }
-        ensures names { IfOk result (λ part. self.new.names ≡ after self.old.names (seen part.tree)) }
-        ensures height { IfOk result (λ part. part.height ≤ lower) }
-        ensures shorter { OnOk result (length self.new.rest.now < length self.old.rest.now) }
+    fn condition(&mut self, budget: usize) -> Result<Part, Stop>
+        ensures { GivesPart (condition_of (reading.level budget (below budget))) budget self.old self.new result }
     {
         self.expect(Punct::LeftParenthesis)?;
-        let x = self.expression(lower)?;
+        let condition = self.expression(budget)?;
         self.expect(Punct::RightParenthesis)?;
-        Ok(x)
+        Ok(condition)
+    }
+
+    // An `else` that is ahead belongs to the `if` before it.
+    fn takes_else(&self, then: Statement) -> bool
+        ensures { result ≡ takes_else then.ends_open self.now.rest.now }
+    {
+        self.at_word("else") && !then.ends_open
     }
 
     // if = "if" "(" expr ")" statement [ "else" statement ]
     #[cycle(statements)]
     fn if_statement(&mut self, start: usize, budget: usize) -> Result<Statement, Stop>
         requires { 1 ≤ length self.now.rest.now }
-        ensures reading { GivesStatement (if_of budget (below budget) self.old.names start (reading.behind_one self.old.rest.now)) self.new.rest.now result }
-        ensures names { IfOk result (λ part. self.new.names ≡ after self.old.names (seen part.part.tree)) }
-        ensures height { IfOk result (λ part. part.part.height ≤ budget) }
-        ensures shorter { OnOk result (length self.new.rest.now < length self.old.rest.now) }
+        ensures { GivesStatement (if_of budget (below budget) start) budget self.old self.new result }
     {
-        self.advance();
-        let lower = within(2, budget)?;
-        let x = self.condition(lower)?;
-        let s = self.statement(lower)?;
-        if s.ends_open || !self.at_word("else") {
-            let part = above_two(self.alloc, SynKind::If, "", start, x, s.part)?;
-            return Ok(Statement {
-                part,
-                ends_open: true,
-            });
+        let lower = self.enter(1, budget)?;
+        let condition = self.condition(lower)?;
+        self.branches(start, condition, lower)
+    }
+
+    // The branches of an `if`, from behind its condition.
+    #[cycle(statements)]
+    fn branches(&mut self, start: usize, condition: Part, lower: usize) -> Result<Statement, Stop>
+        requires fits { condition.height ≤ lower }
+        requires small { suc lower < 2 ^ 64 }
+        ensures { GivesBranches (then_of (reading.level lower (below lower)) start) (suc lower) condition self.old self.new result }
+    {
+        let then = self.statement(lower)?;
+        if !self.takes_else(then) {
+            let trees = &mut self.trees;
+            let part = above_two(trees, SynKind::If, "", start, condition, then.part)?;
+            let ends_open = true;
+            return Ok(Statement { part, ends_open });
         }
         self.advance();
-        let t = self.statement(lower)?;
-        let ends_open = t.ends_open;
-        let part = above_three(self.alloc, SynKind::If, "", start, x, s.part, t.part)?;
+        let Statement { part, ends_open } = self.statement(lower)?;
+        let part = above_three(
+            &mut self.trees,
+            SynKind::If,
+            start,
+            condition,
+            then.part,
+            part,
+        )?;
         Ok(Statement { part, ends_open })
     }
 
@@ -182,17 +199,12 @@ impl<'a> Parser<'a> {
     #[cycle(statements)]
     fn while_statement(&mut self, start: usize, budget: usize) -> Result<Statement, Stop>
         requires { 1 ≤ length self.now.rest.now }
-        ensures reading { GivesStatement (while_of budget (below budget) self.old.names start (reading.behind_one self.old.rest.now)) self.new.rest.now result }
-        ensures names { IfOk result (λ part. self.new.names ≡ after self.old.names (seen part.part.tree)) }
-        ensures height { IfOk result (λ part. part.part.height ≤ budget) }
-        ensures shorter { OnOk result (length self.new.rest.now < length self.old.rest.now) }
+        ensures { GivesStatement (while_of budget (below budget) start) budget self.old self.new result }
     {
-        self.advance();
-        let lower = within(2, budget)?;
-        let x = self.condition(lower)?;
-        let s = self.statement(lower)?;
-        let ends_open = s.ends_open;
-        let part = above_two(self.alloc, SynKind::While, "", start, x, s.part)?;
+        let lower = self.enter(1, budget)?;
+        let condition = self.condition(lower)?;
+        let Statement { part, ends_open } = self.statement(lower)?;
+        let part = above_two(&mut self.trees, SynKind::While, "", start, condition, part)?;
         Ok(Statement { part, ends_open })
     }
 
@@ -200,111 +212,108 @@ impl<'a> Parser<'a> {
     #[cycle(statements)]
     fn do_statement(&mut self, start: usize, budget: usize) -> Result<Statement, Stop>
         requires { 1 ≤ length self.now.rest.now }
-        ensures reading { GivesStatement (do_of budget (below budget) self.old.names start (reading.behind_one self.old.rest.now)) self.new.rest.now result }
-        ensures names { IfOk result (λ part. self.new.names ≡ after self.old.names (seen part.part.tree)) }
-        ensures height { IfOk result (λ part. part.part.height ≤ budget) }
-        ensures shorter { OnOk result (length self.new.rest.now < length self.old.rest.now) }
+        ensures { GivesStatement (do_of budget (below budget) start) budget self.old self.new result }
     {
-        self.advance();
-        let lower = within(2, budget)?;
-        let s = self.statement(lower)?.part;
+        let lower = self.enter(1, budget)?;
+        let body = self.statement(lower)?.part;
+        let condition = self.do_condition(lower)?;
+        let part = above_two(&mut self.trees, SynKind::Do, "", start, body, condition)?;
+        Ok(closed(part))
+    }
+
+    // The condition of a `do`, from its keyword on.
+    fn do_condition(&mut self, budget: usize) -> Result<Part, Stop>
+        ensures { GivesPart (do_condition_of (reading.level budget (below budget))) budget self.old self.new result }
+    {
         self.expect_word("while")?;
-        let x = self.condition(lower)?;
+        let condition = self.condition(budget)?;
         self.expect(Punct::Semicolon)?;
-        Ok(closed(above_two(self.alloc, SynKind::Do, "", start, s, x)?))
+        Ok(condition)
     }
 
     // for = "for" "(" ( declaration | [ expr ] ";" ) [ expr ] ";" [ expr ] ")" statement
     #[cycle(statements)]
     fn for_statement(&mut self, start: usize, budget: usize) -> Result<Statement, Stop>
         requires { 1 ≤ length self.now.rest.now }
-        ensures reading { GivesStatement (for_of budget (below budget) self.old.names start (reading.behind_one self.old.rest.now)) self.new.rest.now result }
-        ensures names { IfOk result (λ part. self.new.names ≡ after self.old.names (seen part.part.tree)) }
-        ensures height { IfOk result (λ part. part.part.height ≤ budget) }
-        ensures shorter { OnOk result (length self.new.rest.now < length self.old.rest.now) }
+        ensures { GivesStatement (for_of budget (below budget) start) budget self.old self.new result }
     {
-        self.advance();
-        let lower = within(2, budget)?;
+        let lower = self.enter(1, budget)?;
         self.expect(Punct::LeftParenthesis)?;
         self.names.open()?;
-        let first = self.for_first(lower)?;
-        let condition = self.optional_expression(lower)?;
-        self.expect(Punct::Semicolon)?;
-        let step = self.optional_expression(lower)?;
-        self.expect(Punct::RightParenthesis)?;
-        let s = self.statement(lower)?;
+        let statement = self.for_parts(start, lower)?;
         self.names.close();
-        let ends_open = s.ends_open;
-        let part = above_four(
-            self.alloc,
-            SynKind::For,
-            start,
-            first,
-            condition,
-            step,
-            s.part,
-        )?;
+        Ok(statement)
+    }
+
+    // A `for` from behind its parenthesis, in its scope.
+    #[cycle(statements)]
+    fn for_parts(&mut self, start: usize, lower: usize) -> Result<Statement, Stop>
+        requires { suc lower < 2 ^ 64 }
+        ensures { GivesFor (for_parts_of (reading.level lower (below lower)) start) (suc lower) self.old self.new result }
+    {
+        let first = self.for_first(lower)?;
+        let condition = self.optional_before(Punct::Semicolon, lower)?;
+        let step = self.optional_before(Punct::RightParenthesis, lower)?;
+        let Statement { part, ends_open } = self.statement(lower)?;
+        let trees = &mut self.trees;
+        let part = above_four(trees, SynKind::For, start, first, condition, step, part)?;
         Ok(Statement { part, ends_open })
     }
 
     // The first part of a `for`.
-    fn for_first(&mut self, lower: usize) -> Result<Part, Stop>
-        ensures reading { (go : Tree → List Token → Answer Tree) → GivesBefore (for_first_of (reading.level lower (below lower)) self.old.names self.old.rest.now go) go self.new.rest.now result }
-        ensures names { IfOk result (λ part. self.new.names ≡ after self.old.names (seen part.tree)) }
-        ensures height { IfOk result (λ part. part.height ≤ lower) }
-        ensures shorter { OnOk result (length self.new.rest.now < length self.old.rest.now) }
+    fn for_first(&mut self, budget: usize) -> Result<Part, Stop>
+        ensures { GivesPart (for_first_of (reading.level budget (below budget))) budget self.old self.new result }
     {
         if self.begins_specifier(false) {
-            return self.declaration(lower);
+            return self.declaration(budget);
         }
-        let x = self.optional_expression(lower)?;
-        self.expect(Punct::Semicolon)?;
-        Ok(x)
+        self.optional_before(Punct::Semicolon, budget)
+    }
+
+    // An expression or nothing, and this mark.
+    fn optional_before(&mut self, mark: Punct, budget: usize) -> Result<Part, Stop>
+        ensures { GivesPart (optional_before (reading.level budget (below budget)) mark) budget self.old self.new result }
+    {
+        let expression = self.optional_expression(budget)?;
+        self.expect(mark)?;
+        Ok(expression)
     }
 
     // return = "return" [ expr ] ";"
     fn return_statement(&mut self, start: usize, budget: usize) -> Result<Statement, Stop>
         requires { 1 ≤ length self.now.rest.now }
-        ensures reading { GivesStatement (return_of budget (below budget) self.old.names start (reading.behind_one self.old.rest.now)) self.new.rest.now result }
-        ensures names { IfOk result (λ part. self.new.names ≡ after self.old.names (seen part.part.tree)) }
-        ensures height { IfOk result (λ part. part.part.height ≤ budget) }
-        ensures shorter { OnOk result (length self.new.rest.now < length self.old.rest.now) }
+        ensures { GivesStatement (return_of budget (below budget) start) budget self.old self.new result }
     {
-        self.advance();
-        let lower = within(1, budget)?;
+        let lower = self.enter(0, budget)?;
         if self.at_mark(Punct::Semicolon) {
             self.advance();
-            return Ok(closed(leaf(self.alloc, SynKind::Return, "", start)?));
+            return Ok(closed(leaf(&mut self.trees, SynKind::Return, "", start)?));
         }
-        let x = self.expression(lower)?;
+        let value = self.expression(lower)?;
         self.expect(Punct::Semicolon)?;
-        Ok(closed(above(self.alloc, SynKind::Return, "", start, x)?))
+        let part = above(&mut self.trees, SynKind::Return, "", start, value)?;
+        Ok(closed(part))
     }
 
     // "break" ";" or "continue" ";"
     fn jump(&mut self, kind: SynKind, start: usize, budget: usize) -> Result<Statement, Stop>
         requires some { 1 ≤ length self.now.rest.now }
         requires jump { is_jump kind ≡ true }
-        ensures reading { GivesStatement (jump_of budget kind start (reading.behind_one self.old.rest.now)) self.new.rest.now result }
-        ensures names { IfOk result (λ part. self.new.names ≡ after self.old.names (seen part.part.tree)) }
-        ensures height { IfOk result (λ part. part.part.height ≤ budget) }
-        ensures shorter { OnOk result (length self.new.rest.now < length self.old.rest.now) }
+        ensures { GivesStatement (jump_of budget kind start) budget self.old self.new result }
     {
-        self.advance();
-        within(1, budget)?;
+        self.enter(0, budget)?;
         self.expect(Punct::Semicolon)?;
-        Ok(closed(leaf(self.alloc, kind, "", start)?))
+        Ok(closed(leaf(&mut self.trees, kind, "", start)?))
     }
 
     // expr ";"
     fn expression_statement(&mut self, budget: usize) -> Result<Statement, Stop>
-        ensures reading { GivesStatement (reading.expression_statement_in budget (below budget) self.old.names self.old.rest.now) self.new.rest.now result }
-        ensures names { IfOk result (λ part. self.new.names ≡ after self.old.names (seen part.part.tree)) }
-        ensures height { IfOk result (λ part. part.part.height ≤ budget) }
-        ensures shorter { OnOk result (length self.new.rest.now < length self.old.rest.now) }
+        ensures { GivesStatement (reading.expression_statement_in budget (below budget)) budget self.old self.new result }
     {
-        let x = self.expression(next_lower(budget))?;
+        let expression = self.expression(next_lower(budget))?;
         self.expect(Punct::Semicolon)?;
-        Ok(closed(above(self.alloc, SynKind::ExprStmt, "", x.start, x)?))
+        let trees = &mut self.trees;
+        let part = above(trees, SynKind::ExprStmt, "", expression.start, expression)?;
+        Ok(closed(part))
     }
 }

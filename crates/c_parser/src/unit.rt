@@ -1,23 +1,20 @@
 // Units. C99 6.9.
-ghost use Rattle.std.specs.Prelude.{◌≡◌, ◌≤◌, ◌<◌, ◌+◌, ◌^◌, [], ℕ, suc, IfOk, IfErr, OnOk};
-ghost use Rattle.c_types.specs.Tables.{table_of};
-ghost use Rattle.c_types.specs.Trees.{Tree, height};
+ghost use Rattle.std.specs.Prelude.{◌≡◌, ◌≤◌, ◌<◌, ◌+◌, ◌^◌, [], ℕ, suc, IfOk, IfErr};
+ghost use Rattle.c_syntax.specs.Tables.{stack_of, table_of};
+ghost use Rattle.c_syntax.specs.Trees.{Tree, height, max_height};
 ghost use Rattle.c_grammar.specs.Derivation.{IsTreeOf};
 ghost use Rattle.c_grammar.specs.Scopes.{opened};
-ghost use Rattle.c_parser.specs.Gives.{Gives};
-ghost use Rattle.c_parser.specs.Parsing.{HasTable, IsWrong, IsTooDeep, max_height};
+ghost use Rattle.c_parser.specs.Gives.{GivesUnit};
+ghost use Rattle.c_parser.specs.Parsing.{HasTable, IsWrong, IsTooDeep};
 ghost use Rattle.c_grammar.specs.Reading as reading;
 ghost use Rattle.c_parser.specs.declared.unit.ParseFault.TheVariants as fault;
 
 use crate::parser::Parser;
 use c_lexer::Tokens;
-use c_parts::{Part, Parts, Stop, node};
+use c_parts::{Part, Stop, above_row};
 use c_scopes::Scopes;
-use c_types::{SynKind, Syntax};
+use c_syntax::{MAX_HEIGHT, SynKind, Syntax, SyntaxBuilder};
 use std::alloc::{AllocError, Global};
-
-// The greatest height of a syntax tree.
-const MAX_HEIGHT: usize = 500;
 
 /// Why a unit has no syntax tree. Each place is the number of a token, or that of all tokens for the end.
 #[derive(Clone, Copy, Debug, PartialEq, Eq)]
@@ -40,9 +37,9 @@ impl From<AllocError> for ParseFault {
     }
 }
 
-/// The syntax tree of the tokens. After `Syntax` no list has a tree that begins with the tokens up to the one at the
-/// place, it included; after `TooDeep` each that begins with the tokens before the place has a tree that is too high,
-/// or none.
+/// The syntax tree of the tokens. After `Syntax` the tokens have none, and no unit has one that begins with them up
+/// to the token at the place, however it goes on. After `TooDeep` some unit that begins with the tokens before the
+/// place has a tree, and however such a unit goes on, its tree is too high.
 pub fn parse(alloc: Global, tokens: &Tokens) -> Result<Syntax, ParseFault>
     ensures tree { IfOk result (λ syntax. HasTable tokens.now syntax) }
     ensures only { IfOk result (λ syntax. (t : Tree) → IsTreeOf tokens.now t → syntax ≡ table_of t) }
@@ -52,19 +49,22 @@ pub fn parse(alloc: Global, tokens: &Tokens) -> Result<Syntax, ParseFault>
 {
     let mut names = Scopes::new(alloc);
     names.open()?;
-    let rest = tokens.as_slice();
-    let mut parser = Parser { alloc, rest, names };
-    match parser.unit(MAX_HEIGHT - 1) {
-        Ok(unit) => Ok(Syntax::new(alloc, unit.tree)?),
-        Err(Stop::Wrong) => {
-            let at = tokens.len() - parser.rest.len();
-            Err(ParseFault::Syntax { at })
-        }
-        Err(Stop::Deep) => {
-            let at = tokens.len() - parser.rest.len();
-            Err(ParseFault::TooDeep { at })
-        }
-        Err(Stop::OutOfMemory) => Err(ParseFault::OutOfMemory),
+    let mut parser = Parser {
+        alloc,
+        rest: tokens.as_slice(),
+        names,
+        trees: SyntaxBuilder::new(alloc),
+        parameters: Vec::new(alloc),
+    };
+    let unit = parser.unit(MAX_HEIGHT - 1);
+    let number = tokens.len().saturating_sub(parser.rest.len());
+    match unit {
+        Ok(unit) => Ok(parser.trees.finish(unit.height)),
+        Err(stop) => match stop {
+            Stop::Wrong => Err(ParseFault::Syntax { at: number }),
+            Stop::Deep => Err(ParseFault::TooDeep { at: number }),
+            Stop::OutOfMemory => Err(ParseFault::OutOfMemory),
+        },
     }
 }
 
@@ -73,16 +73,21 @@ impl<'a> Parser<'a> {
     // unit = external { external }
     fn unit(&mut self, lower: usize) -> Result<Part, Stop>
         requires { lower + 1 < 2 ^ 64 }
-        ensures reading { self.old.names ≡ opened [] → Gives (reading.read_unit (suc lower) self.old.rest.now) self.new.rest.now result }
-        ensures end { OnOk result (self.new.rest.now ≡ []) }
+        ensures { self.old.names ≡ opened [] → stack_of self.old.trees ≡ [] → GivesUnit (reading.read_unit (suc lower) self.old.rest.now) self.new result }
     {
+        let mark = self.trees.len();
         let first = self.external(lower)?;
-        let start = first.start;
-        let mut row = Parts::new(self.alloc);
-        row.push(first)?;
+        let mut height = first.height;
         while !self.rest.is_empty() {
-            row.push(self.external(lower)?)?;
+            height = height.max(self.external(lower)?.height);
         }
-        Ok(node(self.alloc, SynKind::Unit, "", start, row)?)
+        above_row(
+            &mut self.trees,
+            SynKind::Unit,
+            "",
+            first.start,
+            mark,
+            height,
+        )
     }
 }

@@ -1,4 +1,5 @@
+pub mod DeclaratorLaws
+pub mod KeywordLaws
 pub mod Levels
-pub mod Heights
-pub mod Rows
 pub mod NameLaws
+pub mod PushLaws

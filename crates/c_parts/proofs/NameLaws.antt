@@ -1,12 +1,11 @@
 -- The names behind a node that declares nothing of its own.
-use Rattle.std.proofs.Common.{◌≡◌, ℕ, Bool, true, false, List, [], ◌∷◌, ◌++◌, map, refl, sym, ap, ◌∙◌, append_assoc, true≢false}
+use Rattle.std.proofs.Common.{◌≡◌, ℕ, Bool, true, false, List, [], ◌∷◌, ◌++◌, refl, sym, ap, ◌∙◌, append_assoc, true≢false}
 use Rattle.std.proofs.lemmas.List.{append-nil}
-use Rattle.c_types.specs.declared.kind.SynKind.{SynKind}
-use Rattle.c_types.specs.declared.kind.SynKind.TheVariants as kind
-use Rattle.c_types.specs.declared.tree.Tree as code
-use Rattle.c_types.specs.Trees.{Tree, Forest, none, ◌then◌, one, two, three, text_node, string_node, forest_of, seen}
+use Rattle.c_syntax.specs.declared.kind.SynKind.{SynKind}
+use Rattle.c_syntax.specs.declared.kind.SynKind.TheVariants as kind
+use Rattle.c_syntax.specs.Trees.{Tree, Forest, none, ◌then◌, one, two, three, text_node, string_node, constant_node, forest_of}
 use Rattle.c_grammar.specs.Scopes.{Names, Entry, add, after, entries, entries_by, entries_behind, entries_with, own_entries, declares_types}
-use Rattle.c_parts.specs.Nodes.{constant_node, leaves_names}
+use Rattle.c_parts.specs.Nodes.{leaves_names, declares_nothing}
 
 -- ---- names and more names
 
@@ -19,17 +18,6 @@ add_joined [] a b = refl
 add_joined (scope ∷ outer) a b = ap (λ (s : List Entry). s ∷ outer) (append_assoc scope a b)
 
 -- ---- what a node declares
-
--- a node of this kind declares what its kids declare
-abbrev pub declares_nothing : SynKind → Bool
-declares_nothing kind.Block = false
-declares_nothing kind.For = false
-declares_nothing kind.Param = false
-declares_nothing kind.Enumer = false
-declares_nothing kind.InitDecl = false
-declares_nothing kind.Function = false
-declares_nothing kind.Declaration = false
-declares_nothing other = true
 
 node_entries : (k : SynKind) (text : List ℕ) (kids : Forest) (flag : Bool) → declares_nothing k ≡ true
     → entries_by k text kids (entries_with (own_entries k flag kids) (declares_types k kids) kids) ≡ entries_behind false kids
@@ -49,14 +37,14 @@ entries_node k text start kids e = append-nil _ ∙ node_entries k text kids fal
 pub entries_then : (flag : Bool) (t : Tree) (ts : Forest) → entries_behind flag (t then ts) ≡ entries_behind flag (one t) ++ entries_behind flag ts
 entries_then flag t ts = ap (λ (x : List Entry). x ++ entries_behind flag ts) (sym (append-nil _))
 
-pub entries_append : (flag : Bool) (a b : List code.Tree) → entries_behind flag (forest_of (map seen (a ++ b))) ≡ entries_behind flag (forest_of (map seen a)) ++ entries_behind flag (forest_of (map seen b))
+pub entries_append : (flag : Bool) (a b : List Tree) → entries_behind flag (forest_of (a ++ b)) ≡ entries_behind flag (forest_of a) ++ entries_behind flag (forest_of b)
 entries_append flag [] b = refl
 entries_append flag (t ∷ a) b =
     let e = entries_append flag a b in
-    entries_then flag (seen t) (forest_of (map seen (a ++ b))) ∙ ap (λ (x : List Entry). entries_behind flag (one (seen t)) ++ x) e
-    ∙ sym (append_assoc (entries_behind flag (one (seen t))) _ _) ∙ ap (λ (x : List Entry). x ++ entries_behind flag (forest_of (map seen b))) (sym (entries_then flag (seen t) (forest_of (map seen a))))
+    entries_then flag t (forest_of (a ++ b)) ∙ ap (λ (x : List Entry). entries_behind flag (one t) ++ x) e
+    ∙ sym (append_assoc (entries_behind flag (one t)) _ _) ∙ ap (λ (x : List Entry). x ++ entries_behind flag (forest_of b)) (sym (entries_then flag t (forest_of a)))
 
-pub entries_more : (flag : Bool) (a : List code.Tree) (t : code.Tree) → entries_behind flag (forest_of (map seen (a ++ (t ∷ [])))) ≡ entries_behind flag (forest_of (map seen a)) ++ entries_behind flag (one (seen t))
+pub entries_more : (flag : Bool) (a : List Tree) (t : Tree) → entries_behind flag (forest_of (a ++ (t ∷ []))) ≡ entries_behind flag (forest_of a) ++ entries_behind flag (one t)
 entries_more flag a t = entries_append flag a (t ∷ [])
 
 -- ---- the names behind a node

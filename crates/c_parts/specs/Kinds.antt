@@ -1,11 +1,13 @@
 -- What the parser's own words mean for the grammar.
 use Rattle.std.specs.Prelude.{Bool, true, false}
-use Rattle.c_types.specs.declared.kind.SynKind.{SynKind}
-use Rattle.c_types.specs.declared.kind.SynKind.TheVariants as kind
+use Rattle.c_syntax.specs.declared.kind.SynKind.{SynKind}
+use Rattle.c_syntax.specs.declared.kind.SynKind.TheVariants as kind
 use Rattle.c_grammar.specs.Reading as reading
 use Rattle.c_grammar.specs.Reading.{Rows}
 use Rattle.c_parts.specs.declared.specifier.Tagged.{Tagged}
 use Rattle.c_parts.specs.declared.specifier.Tagged.TheVariants.{Struct, Enum}
+use Rattle.c_parts.specs.declared.declarator.Suffix.{Suffix}
+use Rattle.c_parts.specs.declared.declarator.Suffix.TheVariants.{Array, Takes}
 use Rattle.c_parts.specs.declared.declarator.Mode.{Mode}
 use Rattle.c_parts.specs.declared.declarator.Mode.TheVariants.{Named, Unnamed, Either}
 
@@ -22,13 +24,10 @@ mode_of Named = reading.named
 mode_of Unnamed = reading.unnamed
 mode_of Either = reading.either
 
+abbrev pub suffix_kind : Suffix → SynKind
+suffix_kind Array = kind.ArrayOf
+suffix_kind Takes = kind.Takes
+
 abbrev pub needs_name : Mode → Bool
 needs_name Named = true
 needs_name other = false
-
--- a statement of this kind never ends in an `if` without an `else`
-abbrev pub ends_closed : SynKind → Bool
-ends_closed kind.If = false
-ends_closed kind.While = false
-ends_closed kind.For = false
-ends_closed other = true

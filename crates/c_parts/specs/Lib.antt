@@ -1,2 +1,4 @@
 pub mod Kinds
 pub mod Nodes
+pub mod Pushed
+pub mod Says

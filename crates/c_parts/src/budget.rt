@@ -1,7 +1,7 @@
 // Budgets for the height of a tree, and why a part cannot be read.
-ghost use Rattle.std.specs.Prelude.{◌≡◌, ◌≢◌, ◌+◌, ◌≤◌, ◌<◌, suc, IfOk, IfErr, OnOk, OnErr};
+ghost use Rattle.std.specs.Prelude.{◌≡◌, ◌≢◌, ◌<◌};
 ghost use Rattle.c_grammar.specs.Reading.{below, level};
-ghost use Rattle.c_parts.specs.declared.budget.Stop.TheVariants as stop;
+ghost use Rattle.c_parts.specs.Pushed.{Lowers};
 
 use std::alloc::AllocError;
 
@@ -26,33 +26,10 @@ impl From<AllocError> for Stop {
     }
 }
 
-/// The next lower budget, where this much is within the budget.
-#[tactic(auto, using(crate::proofs::Levels::below_lower))]
-pub fn within(needed: usize, budget: usize) -> Result<usize, Stop>
-    requires { 1 ≤ needed }
-    ensures fits { OnOk result (needed ≤ budget) }
-    ensures lower { IfOk result (λ lower. below budget ≡ level lower (below lower)) }
-    ensures less { IfOk result (λ lower. lower < budget) }
-    ensures next { IfOk result (λ lower. budget ≡ lower + 1) }
-    ensures deep { IfErr result (λ s. s ≡ stop.Deep) }
-    ensures beyond { OnErr result (budget < needed) }
-{
-    if budget < needed {
-        return Err(Stop::Deep);
-    }
-    Ok(budget - 1)
-}
-
 /// The next lower budget, where a node above a part of this height is within the budget.
 #[tactic(auto, using(crate::proofs::Levels::below_lower))]
-pub fn within_above(height: usize, budget: usize) -> Result<usize, Stop>
-    ensures fits { OnOk result (suc height ≤ budget) }
-    ensures lower { IfOk result (λ lower. below budget ≡ level lower (below lower)) }
-    ensures less { IfOk result (λ lower. lower < budget) }
-    ensures next { IfOk result (λ lower. budget ≡ lower + 1) }
-    ensures above { IfOk result (λ lower. height ≤ lower) }
-    ensures deep { IfErr result (λ s. s ≡ stop.Deep) }
-    ensures beyond { OnErr result (budget < suc height) }
+pub fn within(height: usize, budget: usize) -> Result<usize, Stop>
+    ensures { Lowers height budget result }
 {
     if budget <= height {
         return Err(Stop::Deep);

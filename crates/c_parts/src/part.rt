@@ -1,262 +1,195 @@
 // Parts of a unit that have been read.
-ghost use Rattle.std.specs.Prelude.{◌≡◌, ◌+◌, ◌<◌, ◌^◌, ◌++◌, [], ◌∷◌, max, map, IfOk, OnOk, OnErr};
-ghost use Rattle.c_types.specs.Trees as trees;
-ghost use Rattle.c_grammar.specs.Derivation;
-ghost use Rattle.std.specs.Prelude.{true};
-ghost use Rattle.c_parts.specs.Kinds.{ends_closed};
-ghost use Rattle.c_types.specs.Trees.{seen, forest_of, none, ◌then◌, one, two, three, text_node};
+ghost use Rattle.std.specs.Prelude.{◌≡◌, ◌+◌, ◌<◌, ◌^◌, [], List, length, max, IfOk, IfErr};
+ghost use Rattle.c_syntax.specs.Trees.{Tree, forest_of, none, ◌then◌, one, two, three, text_node, constant_node, string_node};
+ghost use Rattle.c_syntax.specs.Tables.{stack_of};
+ghost use Rattle.c_parts.specs.declared.budget.Stop.TheVariants as stop;
+ghost use Rattle.c_parts.specs.Pushed.{IsPushed, ArePushed, Pushes, PushesAbove};
 
-use c_types::{Label, SynKind, Tree};
-use cp_base::{Bytes, Name};
-use std::alloc::{AllocError, Global};
+use crate::budget::Stop;
+use c_syntax::{SynKind, SyntaxBuilder};
+use cp_base::Bytes;
 
-/// A tree, and what is asked of it again and again.
-#[derive(Drop)]
+/// A tree on the builder's stack: what is asked of it again and again.
+#[derive(Clone, Copy)]
 pub struct Part {
-    pub tree: Tree,
     pub height: usize,
     pub kind: SynKind,
     pub start: usize,
-    ghost is_height: { height ≡ Rattle.c_types.specs.Trees.height (Rattle.c_types.specs.Trees.seen tree) },
-    ghost is_kind: { kind ≡ (Rattle.c_types.specs.Trees.seen tree).label.kind },
-    ghost is_start: { start ≡ (Rattle.c_types.specs.Trees.seen tree).label.start },
 }
 
-/// Trees in order.
-#[derive(Drop)]
-pub struct Parts {
-    pub trees: Vec<Tree>,
-    pub height: usize,
-    ghost is_height: { height ≡ Rattle.c_types.specs.Trees.forest_height (Rattle.c_types.specs.Trees.forest_of (Rattle.std.specs.Prelude.map Rattle.c_types.specs.Trees.seen trees.items)) },
-}
-
-impl Parts {
-    pub fn new(alloc: Global) -> Parts
-        ensures trees { result.trees.items ≡ [] }
-        ensures height { result.height ≡ 0 }
-    {
-        Parts {
-            trees: Vec::new(alloc),
-            height: 0,
-        }
-    }
-
-    /// Appends a part.
-    #[tactic(auto, using(crate::proofs::Heights::forest_height_append))]
-    pub fn push(&mut self, part: Part) -> Result<(), AllocError>
-        ensures trees { OnOk result (self.new.trees.items ≡ self.old.trees.items ++ (part.tree ∷ [])) }
-        ensures height { OnOk result (self.new.height ≡ max self.old.height part.height) }
-        ensures kept { OnErr result (self.new.trees.items ≡ self.old.trees.items) }
-    {
-        let height = self.height.max(part.height);
-        self.trees.push(part.tree)?;
-        self.height = height;
-        Ok(())
-    }
-
-    /// Appends other trees.
-    #[tactic(auto, using(crate::proofs::Heights::forest_height_append))]
-    fn append(&mut self, others: Parts) -> Result<(), AllocError>
-        ensures trees { OnOk result (self.new.trees.items ≡ self.old.trees.items ++ others.trees.items) }
-        ensures height { OnOk result (self.new.height ≡ max self.old.height others.height) }
-    {
-        let height = self.height.max(others.height);
-        let mut trees = others.trees;
-        self.trees.append(&mut trees)?;
-        self.height = height;
-        Ok(())
-    }
-}
-
-/// A node above these trees.
-pub fn node(
-    alloc: Global,
+/// A node without kids.
+pub fn leaf(
+    trees: &mut SyntaxBuilder,
     kind: SynKind,
     text: &str,
     start: usize,
-    kids: Parts,
-) -> Result<Part, AllocError>
-    requires { kids.height + 1 < 2 ^ 64 }
-    ensures tree { IfOk result (λ part. seen part.tree ≡ text_node kind text.now start (forest_of (map seen kids.trees.items))) }
-    ensures height { IfOk result (λ part. part.height ≡ kids.height + 1) }
+) -> Result<Part, Stop>
+    ensures tree { Pushes (text_node kind text.now start none) (stack_of trees.old) (stack_of trees.new) result }
+    ensures height { IfOk result (λ part. part.height ≡ 1) }
 {
-    let mut name = Name::new(alloc);
-    name.push_all(text)?;
-    let label = Label {
-        kind,
-        text: name,
-        bytes: Bytes::new(alloc),
-        value: 0,
-        start,
-    };
+    above_last(trees, kind, text, start, 0, 0)
+}
+
+/// A number or a character.
+pub fn constant(
+    trees: &mut SyntaxBuilder,
+    kind: SynKind,
+    value: u32,
+    start: usize,
+) -> Result<Part, Stop>
+    ensures tree { Pushes (constant_node kind value start) (stack_of trees.old) (stack_of trees.new) result }
+    ensures height { IfOk result (λ part. part.height ≡ 1) }
+{
+    trees.push_constant(kind, value, start)?;
     Ok(Part {
-        tree: Tree::new(label, kids.trees),
-        height: kids.height + 1,
+        height: 1,
         kind,
         start,
     })
 }
 
-/// A node without kids.
-pub fn leaf(alloc: Global, kind: SynKind, text: &str, start: usize) -> Result<Part, AllocError>
-    ensures tree { IfOk result (λ part. seen part.tree ≡ text_node kind text.now start none) }
+/// A string literal.
+pub fn literal(trees: &mut SyntaxBuilder, bytes: Bytes, start: usize) -> Result<Part, Stop>
+    ensures tree { Pushes (string_node bytes start) (stack_of trees.old) (stack_of trees.new) result }
     ensures height { IfOk result (λ part. part.height ≡ 1) }
 {
-    node(alloc, kind, text, start, Parts::new(alloc))
+    trees.push_string(bytes, start)?;
+    Ok(Part {
+        height: 1,
+        kind: SynKind::Str,
+        start,
+    })
 }
 
-/// A node above one part.
+/// A node above the last tree.
 pub fn above(
-    alloc: Global,
+    trees: &mut SyntaxBuilder,
     kind: SynKind,
     text: &str,
     start: usize,
     kid: Part,
-) -> Result<Part, AllocError>
+) -> Result<Part, Stop>
     requires { kid.height + 1 < 2 ^ 64 }
-    ensures tree { IfOk result (λ part. seen part.tree ≡ text_node kind text.now start (one (seen kid.tree))) }
+    ensures tree { (t : Tree) (under : List Tree) → IsPushed t under (stack_of trees.old) kid → Pushes (text_node kind text.now start (one t)) under (stack_of trees.new) result }
     ensures height { IfOk result (λ part. part.height ≡ kid.height + 1) }
 {
-    let mut kids = Parts::new(alloc);
-    kids.push(kid)?;
-    node(alloc, kind, text, start, kids)
+    above_last(trees, kind, text, start, 1, kid.height)
 }
 
-/// A node above two parts.
+/// A node above the last two trees.
 pub fn above_two(
-    alloc: Global,
+    trees: &mut SyntaxBuilder,
     kind: SynKind,
     text: &str,
     start: usize,
     first: Part,
     second: Part,
-) -> Result<Part, AllocError>
+) -> Result<Part, Stop>
     requires { max first.height second.height + 1 < 2 ^ 64 }
-    ensures tree { IfOk result (λ part. seen part.tree ≡ text_node kind text.now start (two (seen first.tree) (seen second.tree))) }
+    ensures tree { (t u : Tree) (under behind : List Tree) → IsPushed t under behind first → IsPushed u behind (stack_of trees.old) second → Pushes (text_node kind text.now start (two t u)) under (stack_of trees.new) result }
     ensures height { IfOk result (λ part. part.height ≡ max first.height second.height + 1) }
 {
-    let mut kids = Parts::new(alloc);
-    kids.push(first)?;
-    kids.push(second)?;
-    node(alloc, kind, text, start, kids)
+    let height = first.height.max(second.height);
+    above_last(trees, kind, text, start, 2, height)
 }
 
-/// A node above three parts.
+/// A node above the last three trees.
 pub fn above_three(
-    alloc: Global,
+    trees: &mut SyntaxBuilder,
     kind: SynKind,
-    text: &str,
     start: usize,
     first: Part,
     second: Part,
     third: Part,
-) -> Result<Part, AllocError>
+) -> Result<Part, Stop>
     requires { max first.height (max second.height third.height) + 1 < 2 ^ 64 }
-    ensures tree { IfOk result (λ part. seen part.tree ≡ text_node kind text.now start (three (seen first.tree) (seen second.tree) (seen third.tree))) }
+    ensures tree { (t u v : Tree) (under behind last : List Tree) → IsPushed t under behind first → IsPushed u behind last second → IsPushed v last (stack_of trees.old) third → Pushes (text_node kind [] start (three t u v)) under (stack_of trees.new) result }
     ensures height { IfOk result (λ part. part.height ≡ max first.height (max second.height third.height) + 1) }
 {
-    let mut kids = Parts::new(alloc);
-    kids.push(first)?;
-    kids.push(second)?;
-    kids.push(third)?;
-    node(alloc, kind, text, start, kids)
+    let height = first.height.max(second.height.max(third.height));
+    above_last(trees, kind, "", start, 3, height)
 }
 
-/// A node above four parts.
+/// A node above the last four trees.
 pub fn above_four(
-    alloc: Global,
+    trees: &mut SyntaxBuilder,
     kind: SynKind,
     start: usize,
     first: Part,
     second: Part,
     third: Part,
     fourth: Part,
-) -> Result<Part, AllocError>
+) -> Result<Part, Stop>
     requires { max first.height (max second.height (max third.height fourth.height)) + 1 < 2 ^ 64 }
-    ensures tree { IfOk result (λ part. seen part.tree ≡ text_node kind [] start (seen first.tree then three (seen second.tree) (seen third.tree) (seen fourth.tree))) }
+    ensures tree { (t u v w : Tree) (under behind middle last : List Tree) → IsPushed t under behind first → IsPushed u behind middle second → IsPushed v middle last third → IsPushed w last (stack_of trees.old) fourth → Pushes (text_node kind [] start (t then three u v w)) under (stack_of trees.new) result }
     ensures height { IfOk result (λ part. part.height ≡ max first.height (max second.height (max third.height fourth.height)) + 1) }
 {
-    let mut kids = Parts::new(alloc);
-    kids.push(first)?;
-    kids.push(second)?;
-    kids.push(third)?;
-    kids.push(fourth)?;
-    node(alloc, kind, "", start, kids)
+    let below = second.height.max(third.height.max(fourth.height));
+    let height = first.height.max(below);
+    above_last(trees, kind, "", start, 4, height)
 }
 
-/// A node above a part and the trees behind it.
+/// A node above the trees behind the first `mark` ones; `height` is the greatest of theirs.
 pub fn above_row(
-    alloc: Global,
+    trees: &mut SyntaxBuilder,
+    kind: SynKind,
+    text: &str,
+    start: usize,
+    mark: usize,
+    height: usize,
+) -> Result<Part, Stop>
+    requires { height + 1 < 2 ^ 64 }
+    ensures tree { (ts under : List Tree) → mark ≡ length under → ArePushed ts under (stack_of trees.old) height → Pushes (text_node kind text.now start (forest_of ts)) under (stack_of trees.new) result }
+    ensures refused { IfErr result (λ s. s ≡ stop.OutOfMemory) }
+    ensures height { IfOk result (λ part. part.height ≡ height + 1) }
+{
+    let kids = trees.len().saturating_sub(mark);
+    above_last(trees, kind, text, start, kids, height)
+}
+
+/// A node above a tree and the trees behind it: it is the last of the first `mark` ones, and `height` is the greatest
+/// of the others'.
+pub fn above_first(
+    trees: &mut SyntaxBuilder,
     kind: SynKind,
     start: usize,
     first: Part,
-    others: Parts,
-) -> Result<Part, AllocError>
-    requires { max first.height others.height + 1 < 2 ^ 64 }
-    ensures tree { IfOk result (λ part. seen part.tree ≡ text_node kind [] start (seen first.tree then forest_of (map seen others.trees.items))) }
-    ensures height { IfOk result (λ part. part.height ≡ max first.height others.height + 1) }
+    mark: usize,
+    height: usize,
+) -> Result<Part, Stop>
+    requires { max first.height height + 1 < 2 ^ 64 }
+    ensures tree { (t : Tree) (ts under behind : List Tree) → mark ≡ length behind → IsPushed t under behind first → ArePushed ts behind (stack_of trees.old) height → Pushes (text_node kind [] start (t then forest_of ts)) under (stack_of trees.new) result }
+    ensures refused { IfErr result (λ s. s ≡ stop.OutOfMemory) }
+    ensures height { IfOk result (λ part. part.height ≡ max first.height height + 1) }
 {
-    let mut kids = Parts::new(alloc);
-    kids.push(first)?;
-    kids.append(others)?;
-    node(alloc, kind, "", start, kids)
+    let height = first.height.max(height);
+    above_row(trees, kind, "", start, mark.saturating_sub(1), height)
 }
 
-/// A constant.
-pub fn constant(alloc: Global, kind: SynKind, value: u32, start: usize) -> Part
-    ensures tree { seen result.tree ≡ record { label = record { kind = kind; text = []; bytes = []; value = value; start = start }; kids = none } }
-    ensures height { result.height ≡ 1 }
+// A node above so many of the last trees; `height` is the greatest of theirs.
+fn above_last(
+    trees: &mut SyntaxBuilder,
+    kind: SynKind,
+    text: &str,
+    start: usize,
+    kids: usize,
+    height: usize,
+) -> Result<Part, Stop>
+    requires { height + 1 < 2 ^ 64 }
+    ensures tree { PushesAbove kind text.now start kids height (stack_of trees.old) (stack_of trees.new) result }
+    ensures height { IfOk result (λ part. part.height ≡ height + 1) }
 {
-    let label = Label {
-        kind,
-        text: Name::new(alloc),
-        bytes: Bytes::new(alloc),
-        value,
-        start,
-    };
-    Part {
-        tree: Tree::new(label, Vec::new(alloc)),
-        height: 1,
+    trees.push_text(kind, text, start, kids)?;
+    Ok(Part {
+        height: height + 1,
         kind,
         start,
-    }
-}
-
-/// A string literal.
-pub fn literal(alloc: Global, bytes: Bytes, start: usize) -> Part
-    ensures tree { seen result.tree ≡ trees.string_node bytes start }
-    ensures height { result.height ≡ 1 }
-{
-    let label = Label {
-        kind: SynKind::Str,
-        text: Name::new(alloc),
-        bytes,
-        value: 0,
-        start,
-    };
-    Part {
-        tree: Tree::new(label, Vec::new(alloc)),
-        height: 1,
-        kind: SynKind::Str,
-        start,
-    }
+    })
 }
 
 /// A statement, and whether it ends in an `if` without an `else`.
-#[derive(Drop)]
+#[derive(Clone, Copy)]
 pub struct Statement {
     pub part: Part,
     pub ends_open: bool,
-    ghost open_is: { ends_open ≡ Rattle.c_grammar.specs.Derivation.ends_open (Rattle.c_types.specs.Trees.seen part.tree) },
-}
-
-/// A statement of a kind that never ends so.
-pub fn closed(part: Part) -> Statement
-    requires { ends_closed part.kind ≡ true }
-    ensures { result.part ≡ part }
-{
-    Statement {
-        part,
-        ends_open: false,
-    }
 }

@@ -4,45 +4,30 @@ ghost use Rattle.c_grammar.specs.Vocabulary as vocabulary;
 
 use c_lexer::Punct;
 
-const KEYWORDS: [&str; 37] = [
-    "auto",
-    "break",
-    "case",
-    "char",
-    "const",
-    "continue",
-    "default",
-    "do",
-    "double",
-    "else",
-    "enum",
-    "extern",
-    "float",
-    "for",
-    "goto",
-    "if",
-    "inline",
-    "int",
-    "long",
-    "register",
-    "restrict",
-    "return",
-    "short",
-    "signed",
-    "sizeof",
-    "static",
-    "struct",
-    "switch",
-    "typedef",
-    "union",
-    "unsigned",
-    "void",
-    "volatile",
-    "while",
-    "_Bool",
-    "_Complex",
-    "_Imaginary",
+// The keywords by their lengths.
+const KEYWORDS_OF_2: [&str; 2] = ["do", "if"];
+
+const KEYWORDS_OF_3: [&str; 2] = ["for", "int"];
+
+const KEYWORDS_OF_4: [&str; 8] = [
+    "auto", "case", "char", "else", "enum", "goto", "long", "void",
 ];
+
+const KEYWORDS_OF_5: [&str; 7] = [
+    "break", "const", "float", "short", "union", "while", "_Bool",
+];
+
+const KEYWORDS_OF_6: [&str; 9] = [
+    "double", "extern", "inline", "return", "signed", "sizeof", "static", "struct", "switch",
+];
+
+const KEYWORDS_OF_7: [&str; 2] = ["default", "typedef"];
+
+const KEYWORDS_OF_8: [&str; 6] = [
+    "continue", "register", "restrict", "unsigned", "volatile", "_Complex",
+];
+
+const KEYWORDS_OF_10: [&str; 1] = ["_Imaginary"];
 
 const TYPE_WORDS: [&str; 8] = [
     "void", "char", "short", "int", "long", "signed", "unsigned", "_Bool",
@@ -54,7 +39,17 @@ const STORAGE_WORDS: [&str; 6] = ["typedef", "extern", "static", "auto", "regist
 pub fn is_identifier(text: &str) -> bool
     ensures { result ≡ vocabulary.is_identifier text.now }
 {
-    !KEYWORDS.contains(&text)
+    match text.len() {
+        2 => !KEYWORDS_OF_2.contains(&text),
+        3 => !KEYWORDS_OF_3.contains(&text),
+        4 => !KEYWORDS_OF_4.contains(&text),
+        5 => !KEYWORDS_OF_5.contains(&text),
+        6 => !KEYWORDS_OF_6.contains(&text),
+        7 => !KEYWORDS_OF_7.contains(&text),
+        8 => !KEYWORDS_OF_8.contains(&text),
+        10 => !KEYWORDS_OF_10.contains(&text),
+        _ => true,
+    }
 }
 
 /// The word alone is a type, or a part of one.

@@ -22,6 +22,3 @@
 mod scopes;
 
 pub use scopes::{Declared, Scopes};
-
-#[cfg(test)]
-mod tests;

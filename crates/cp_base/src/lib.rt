@@ -42,6 +42,3 @@ pub use name::{Name, Names};
 pub use sink::{Failed, Sink, put_all, put_number};
 pub use sqlite_items::Items;
 pub use system::{StdFiles, StdSink};
-
-#[cfg(test)]
-mod tests;

@@ -4,10 +4,10 @@ use Rattle.std.proofs.lemmas.List.{take-append-drop}
 use Rattle.c_lexer.specs.declared.token.Token.{Token}
 use Rattle.c_lexer.specs.Tokens.{IsPiece, blank, line_comment, block_comment, skipped_line, token, Reaches, here, piece, HasTokens}
 use Rattle.c_lexer.proofs.OneList.{piece_within, one_list}
-use Rattle.c_types.specs.declared.syntax.SynNode.{SynNode}
-use Rattle.c_types.specs.Tables.{table_of}
-use Rattle.c_types.specs.Trees as trees
-use Rattle.c_types.specs.TreeText.{tree_text}
+use Rattle.c_syntax.specs.declared.syntax.SynNode.{SynNode}
+use Rattle.c_syntax.specs.Tables.{table_of}
+use Rattle.c_syntax.specs.Trees as trees
+use Rattle.c_syntax.specs.TreeText.{tree_text}
 use Rattle.c_grammar.specs.Derivation.{IsTreeOf}
 use Rattle.c_grammar.proofs.OneTree.{one_tree_of}
 use Rattle.c_parser.specs.declared.unit.ParseFault.{ParseFault}

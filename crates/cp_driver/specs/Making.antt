@@ -6,10 +6,10 @@ use Rattle.rv_code.specs.Text.{text_of}
 use Rattle.c_lexer.specs.declared.token.Token.{Token}
 use Rattle.c_lexer.specs.Tokens.{HasTokens, IsLexical}
 use Rattle.c_lexer.specs.Dump.{tokens_text}
-use Rattle.c_types.specs.Trees as trees
-use Rattle.c_types.specs.TreeText.{tree_text}
+use Rattle.c_syntax.specs.Trees as trees
+use Rattle.c_syntax.specs.TreeText.{tree_text}
 use Rattle.c_grammar.specs.Derivation.{IsTreeOf}
-use Rattle.c_parser.specs.Parsing.{max_height, IsWrong, IsTooDeep}
+use Rattle.c_parser.specs.Parsing.{IsWrong, IsTooDeep}
 use Rattle.cp_first.specs.FirstForm.{IsNotFirst}
 use Rattle.cp_first.specs.FirstAssembly.{IsAssemblyOf}
 use Rattle.cp_driver.specs.declared.job.Stage.{Stage}
@@ -26,14 +26,14 @@ pub record IsTextOfTree (bytes text : List ℕ) : Type 0 where
   pub tree : trees.Tree
   pub listed : HasTokens bytes tokens
   pub derived : IsTreeOf tokens tree
-  pub within : trees.height tree ≤ max_height
+  pub within : trees.height tree ≤ trees.max_height
   pub same : text ≡ tree_text tree
 
 -- the bytes have a token list without a tree that is within the limit
 pub record HasNoLowTree (bytes : List ℕ) : Type 0 where
   pub tokens : List Token
   pub listed : HasTokens bytes tokens
-  pub high : (t : trees.Tree) → IsTreeOf tokens t → max_height < trees.height t
+  pub high : (t : trees.Tree) → IsTreeOf tokens t → trees.max_height < trees.height t
 
 -- the text that shows the bytes at a stage
 abbrev pub Shows : Stage → List ℕ → List ℕ → Type 0

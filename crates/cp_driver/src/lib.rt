@@ -38,6 +38,3 @@ mod words;
 
 pub use driver::cparser;
 pub use report::{Done, Fault, Report};
-
-#[cfg(test)]
-mod tests;

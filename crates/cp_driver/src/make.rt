@@ -9,7 +9,7 @@ use crate::job::{Stage, Task};
 use crate::report::{Fault, Report};
 use c_lexer::{LexFault, Token, lex, tokens_text};
 use c_parser::{ParseFault, parse};
-use c_types::tree_text;
+use c_syntax::tree_text;
 use cp_base::Bytes;
 use cp_first::compile_first;
 use rv_code::text_of;

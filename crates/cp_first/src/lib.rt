@@ -24,6 +24,3 @@ mod first_form;
 mod first_unit;
 
 pub use compile::compile_first;
-
-#[cfg(test)]
-mod tests;

@@ -1,100 +1,122 @@
--- Initializers are read as the grammar reads them.
-use Rattle.std.proofs.Common.{◌∷◌, ◌++◌, [], false, length, map, sym, ap, ◌∙◌, subst, arith}
-use Rattle.c_types.specs.Trees.{seen, forest_of}
-use Rattle.c_grammar.specs.Scopes.{Names, add, after, entries_behind}
-use Rattle.c_grammar.specs.Reading as reading
-use Rattle.c_grammar.specs.Reading.{below}
-use Rattle.c_parser.specs.Gives.{Stops}
-use Rattle.c_parser.proofs.Stopping.{gives_all_stop}
-use Rattle.c_parser.proofs.Rows.{names_more}
-use Rattle.c_parser.proofs.CommaRows.{braces_first, braces_next, braces_stops, braces_end, braces_end_comma}
-use Rattle.c_parser.proofs.Tokens.{behind_one_shorter}
+-- Initializers.
+use Rattle.std.proofs.Common.{◌<◌, [], length, refl, sym, ap, ◌∙◌, arith, rules}
+use Rattle.std.specs.Prelude.{⊤}
+use Rattle.c_lexer.specs.declared.token.Punct.TheVariants.{RightBrace}
+use Rattle.c_syntax.specs.declared.kind.SynKind.TheVariants as kind
+use Rattle.c_syntax.specs.Trees.{plain_node, forest_of}
+use Rattle.c_syntax.specs.Tables.{stack_of}
+use Rattle.c_grammar.specs.Answers.{found}
+use Rattle.c_grammar.specs.Reading.{below, initializers, initializer_in}
+use Rattle.c_parser.specs.Gives.{itself, itself_high, nothing_more, no_more}
+use Rattle.c_parser.proofs.Stopping.{gives_stop, gives_row_stop, whole_barred, stops_before, found_then, passed}
+use Rattle.c_parser.proofs.Tokens.{shorter_behind}
+use Rattle.c_parser.proofs.Made.{gives_same, row_made, row_from}
+use Rattle.c_parser.proofs.Spans.{row_inside, row_on, mark_stops}
+use Rattle.c_parser.proofs.BraceRows.{in_braces_first, in_braces_first_stops, in_braces_stops, in_braces_next, in_braces_smaller, in_braces_end, in_braces_end_comma}
+use Rattle.c_parser.proofs.InitializerLaws.{braces_shape, no_braces, initializers_listed}
 use Rattle.c_parser.proofs.parser.Parser.+initialize.Goals as goal
 
--- src/declaration.rt:304:9
-pub initializers-loop-self-init : goal.initializers-loop-self-init
-unfolding reading.rows_in
-initializers-loop-self-init t c =
-    record {
-      reading = braces_first c.args.budget (below c.args.budget) (reading.initializer_in c.args.budget (below c.args.budget)) c.args.self.now.names
-          c.initializer.new.self.names c.args.self.now.rest.now c.initializer.new.self.rest.now c.in_ok-initializer.field-0.tree _
-          c.in_ok-initializer.ensures.reading c.in_ok-initializer.ensures.names (omega (arith, c.in_ok-initializer.ensures.shorter))
-          (c.in_ok-push.ensures.trees ∙ ap (λ xs. xs ++ (c.in_ok-initializer.field-0.tree ∷ [])) c.new-row.ensures.trees);
-      names = c.in_ok-initializer.ensures.names ∙ ap (λ xs. add c.args.self.now.names (entries_behind false (forest_of (map seen xs))))
-          (sym (c.in_ok-push.ensures.trees ∙ ap (λ xs. xs ++ (c.in_ok-initializer.field-0.tree ∷ [])) c.new-row.ensures.trees));
-      height = omega (arith, c.in_ok-push.ensures.height, c.new-row.ensures.height, c.in_ok-initializer.ensures.height);
-      shorter = c.in_ok-initializer.ensures.shorter;
-    }
+-- ---- one
 
--- src/declaration.rt:307:17
-pub initializers-returns-then-at_mark-clause-reading :
-    goal.initializers-returns-then-at_mark-clause-reading
-initializers-returns-then-at_mark-clause-reading t c =
-    braces_end_comma c.args.budget (below c.args.budget) _ _ _ _ _ _ c.loop-self.invariant.reading (sym c.at_mark.ensures ∙ c.loop-self-test.true) c.advance.ensures.rest
+pub initializer-returns-then-not-at_mark : goal.initializer-returns-then-not-at_mark
+initializer-returns-then-not-at_mark t c =
+    let d = c.args.budget in
+    gives_same itself nothing_more _ _ _ _ _ _ _ _ (no_braces d (below d) c.args.self.now.names c.args.self.now.rest.now (sym c.at_mark.ensures ∙ c.if-not-at_mark.true)) c.assignment.ensures
+
+pub initializer-returns-in_err-lower : goal.initializer-returns-in_err-lower
+initializer-returns-in_err-lower t c =
+    let d = c.args.budget in
+    gives_stop itself nothing_more _ _ _ _ _ _ _ c.in_err-lower.field-0.0 c.from_residual.ensures (
+    whole_barred _ 1 d 0 _ _ (braces_shape d (below d) c.args.self.now.names c.args.self.now.rest.now (sym c.at_mark.ensures ∙ c.if-not-at_mark.false))
+    _ c.in_err-lower.field-0.0 c.in_err-lower.ensures.lower c.in_err-lower.ensures.rest)
+
+pub initializer-returns-in_err-height : goal.initializer-returns-in_err-height
+initializer-returns-in_err-height t c =
+    let d = c.args.budget in
+    let entered = c.in_ok-lower.ensures in
+    gives_stop itself nothing_more _ _ _ _ _ _ _ c.in_err-height.field-0.0 c.from_residual-in_err-height.ensures (
+    stops_before _ _ _ _ c.in_err-height.field-0.0 (row_inside 1 d c.in_ok-lower.lower entered.lower initializers _ _ c.args.self.now c.enter.new.self
+    (braces_shape d (below d) c.args.self.now.names c.args.self.now.rest.now (sym c.at_mark.ensures ∙ c.if-not-at_mark.false)) entered.kept entered.rest) c.in_err-height.ensures)
+
+pub initializer-returns-in_err-expect : goal.initializer-returns-in_err-expect
+initializer-returns-in_err-expect t c =
+    let d = c.args.budget in
+    let entered = c.in_ok-lower.ensures in
+    let row = c.in_ok-height.ensures in
+    gives_stop itself nothing_more _ _ _ _ _ _ _ c.in_err-expect.field-0.0 c.from_residual-in_err-expect.ensures (
+    mark_stops _ RightBrace c.initializers.new.self c.expect.new.self _ _
+    (row_inside 1 d c.in_ok-lower.lower entered.lower initializers _ _ c.args.self.now c.enter.new.self
+    (braces_shape d (below d) c.args.self.now.names c.args.self.now.rest.now (sym c.at_mark.ensures ∙ c.if-not-at_mark.false)) entered.kept entered.rest
+    ∙ found_then _ _ _ _ row.found_is) c.in_err-expect.ensures)
+
+pub initializer-returns : goal.initializer-returns
+initializer-returns t c =
+    let d = c.args.budget in
+    let entered = c.in_ok-lower.ensures in
+    let close = c.in_ok-expect.ensures in
+    let given = c.in_ok-height.ensures in
+    let row = row_from _ _ _ _ c.args.self.now c.enter.new.self c.initializers.new.self _ entered.kept given in
+    let behind = shorter_behind c.args.self.now.rest.now c.enter.new.self.rest.now c.initializers.new.self.rest.now entered.rest given.shorter in
+    let shorter : length c.expect.new.self.rest.now < length c.args.self.now.rest.now = let b = close.shorter in omega (arith, behind, b) in
+    let shape = braces_shape d (below d) c.args.self.now.names c.args.self.now.rest.now (sym c.at_mark.ensures ∙ c.if-not-at_mark.false) in
+    row_made kind.Braces [] c.start-start.result refl (λ t. ⊤) _ d c.in_ok-lower.lower (length c.args.self.now.rest.now) entered.lower.next
+    c.args.self.now.names row.trees (stack_of c.args.self.now.trees) c.in_ok-height.height c.expect.new.self _ c.above_row.result
+    (row_on c.args.self.now.names row.trees _ _ c.initializers.new.self c.expect.new.self close.kept row.read) given.low refl shorter
+    (c.above_row.ensures.tree row.trees (stack_of c.args.self.now.trees) (c.len-mark.ensures ∙ ap (λ trees. length (stack_of trees)) entered.kept.trees_are))
+    (row_inside 1 d c.in_ok-lower.lower entered.lower initializers _ _ c.args.self.now c.enter.new.self shape entered.kept entered.rest ∙ found_then _ _ _ _ row.found_is
+    ∙ passed RightBrace c.initializers.new.self c.expect.new.self _ close
+    ∙ ap (λ n. found (plain_node kind.Braces n (forest_of row.trees)) c.expect.new.self.rest.now) (sym c.start-start.ensures)) tt
+
+-- ---- rows
+
+pub initializers-returns-in_err-height : goal.initializers-returns-in_err-height
+initializers-returns-in_err-height t c =
+    let d = c.args.budget in
+    let names = c.args.self.now.names in
+    let ts = c.args.self.now.rest.now in
+    gives_row_stop itself_high no_more _ _ _ _ _ _ _ c.in_err-height.field-0.0 c.from_residual.ensures (
+    in_braces_first_stops d (below d) (initializer_in d (below d)) _ names (stack_of c.args.self.now.trees) d (length ts) ts _ c.in_err-height.field-0.0
+    (initializers_listed d (below d) names ts) c.in_err-height.ensures)
+
+pub initializers-loop-self-init : goal.initializers-loop-self-init
+initializers-loop-self-init t c =
+    let d = c.args.budget in
+    let names = c.args.self.now.names in
+    let ts = c.args.self.now.rest.now in
+    in_braces_first d (below d) (initializer_in d (below d)) _ names (stack_of c.args.self.now.trees) d (length ts) ts (initializers_listed d (below d) names ts)
+    _ c.initializer.new.self c.in_ok-height.field-0 c.in_ok-height.ensures (omega arith)
+
+pub initializers-returns-then-at_mark : goal.initializers-returns-then-at_mark
+initializers-returns-then-at_mark t c =
+    let d = c.args.budget in
+    in_braces_end_comma d (below d) (initializer_in d (below d)) _ c.args.self.now.names (stack_of c.args.self.now.trees) d (length c.args.self.now.rest.now)
+    c.loop-self.self c.loop-self.height c.loop-self.invariant (sym c.at_mark.ensures ∙ c.loop-self-test.true) c.advance.new.self c.advance.ensures.kept c.advance.ensures.rest
     (sym c.at_mark-in-loop-self.ensures ∙ c.if-at_mark.true)
 
--- src/declaration.rt:307:17
-pub initializers-returns-then-at_mark-clause-names :
-    goal.initializers-returns-then-at_mark-clause-names
-initializers-returns-then-at_mark-clause-names t c =
-    c.advance.ensures.names ∙ c.loop-self.invariant.names
+pub initializers-returns-in_err-initializer : goal.initializers-returns-in_err-initializer
+initializers-returns-in_err-initializer t c =
+    let d = c.args.budget in
+    gives_row_stop itself_high no_more _ _ _ _ _ _ _ c.in_err-initializer.field-0.0 c.from_residual-in_err-initializer.ensures (
+    in_braces_stops d (below d) (initializer_in d (below d)) _ c.args.self.now.names (stack_of c.args.self.now.trees) d (length c.args.self.now.rest.now)
+    c.loop-self.self c.loop-self.height c.loop-self.invariant (sym c.at_mark.ensures ∙ c.loop-self-test.true) c.advance.new.self c.advance.ensures.kept c.advance.ensures.rest
+    (sym c.at_mark-in-loop-self.ensures ∙ c.if-at_mark.false) _ c.in_err-initializer.field-0.0 c.in_err-initializer.ensures)
 
--- src/declaration.rt:307:17
-pub initializers-returns-then-at_mark-clause-height :
-    goal.initializers-returns-then-at_mark-clause-height
-initializers-returns-then-at_mark-clause-height t c =
-    c.loop-self.invariant.height
-
--- src/declaration.rt:307:17
-pub initializers-returns-then-at_mark-clause-shorter :
-    goal.initializers-returns-then-at_mark-clause-shorter
-initializers-returns-then-at_mark-clause-shorter t c =
-    let a = behind_one_shorter c.loop-self.self.rest.now in let b = ap length c.advance.ensures.rest in omega (arith, a, b, c.loop-self.invariant.shorter)
-
--- src/declaration.rt:309:22
-pub initializers-returns-in_err-initializer-2-clause-reading :
-    goal.initializers-returns-in_err-initializer-2-clause-reading
-initializers-returns-in_err-initializer-2-clause-reading t c =
-    gives_all_stop _ _ _ c.in_err-initializer-2.field-0.0 c.from_residual-in_err-initializer-2.ensures
-    (braces_stops c.args.budget (below c.args.budget) _ _ _ _ _ _ _ c.in_err-initializer-2.field-0.0 c.loop-self.invariant.reading
-    (sym c.at_mark.ensures ∙ c.loop-self-test.true) c.advance.ensures.rest (sym c.at_mark-in-loop-self.ensures ∙ c.if-at_mark.false)
-    (subst (λ (n : Names). Stops (reading.initializer_in c.args.budget (below c.args.budget) n c.advance.new.self.rest.now)
-    c.initializer-in-loop-self.new.self.rest.now c.in_err-initializer-2.field-0.0) c.advance.ensures.names c.in_err-initializer-2.ensures.reading))
-
--- src/declaration.rt:304:9
 pub initializers-loop-self-preserved : goal.initializers-loop-self-preserved
 initializers-loop-self-preserved t c =
-    record {
-      reading = braces_next c.args.budget (below c.args.budget) _ _ _ _ _ _ _ _ _ _ c.loop-self.invariant.reading (sym c.at_mark.ensures ∙ c.loop-self-test.true)
-          c.advance.ensures.rest (sym c.at_mark-in-loop-self.ensures ∙ c.if-at_mark.false)
-          (ap (λ (n : Names). reading.initializer_in c.args.budget (below c.args.budget) n c.advance.new.self.rest.now) (sym c.advance.ensures.names) ∙
-          c.in_ok-initializer-2.ensures.reading)
-          (c.in_ok-initializer-2.ensures.names ∙ ap (λ (n : Names). after n (seen c.in_ok-initializer-2.field-0.tree)) c.advance.ensures.names)
-          (omega (arith, c.in_ok-initializer-2.ensures.shorter)) c.in_ok-push-2.ensures.trees;
-      names = names_more _ _ _ c.loop-self.row.trees.items c.in_ok-initializer-2.field-0.tree c.loop-self.invariant.names
-          (c.in_ok-initializer-2.ensures.names ∙ ap (λ (n : Names). after n (seen c.in_ok-initializer-2.field-0.tree)) c.advance.ensures.names)
-          ∙ ap (λ xs. add c.args.self.now.names (entries_behind false (forest_of (map seen xs)))) (sym c.in_ok-push-2.ensures.trees);
-      height = omega (arith, c.in_ok-push-2.ensures.height, c.loop-self.invariant.height, c.in_ok-initializer-2.ensures.height);
-      shorter = let a = behind_one_shorter c.loop-self.self.rest.now in let b = ap length c.advance.ensures.rest in omega
-          (arith, a, b, c.loop-self.invariant.shorter, c.in_ok-initializer-2.ensures.shorter);
-    }
+    let d = c.args.budget in
+    in_braces_next d (below d) (initializer_in d (below d)) _ c.args.self.now.names (stack_of c.args.self.now.trees) d (length c.args.self.now.rest.now)
+    c.loop-self.self c.loop-self.height c.loop-self.invariant (sym c.at_mark.ensures ∙ c.loop-self-test.true) c.advance.new.self c.advance.ensures.kept c.advance.ensures.rest
+    (sym c.at_mark-in-loop-self.ensures ∙ c.if-at_mark.false) _ c.initializer-in-loop-self.new.self c.in_ok-initializer.field-0 c.in_ok-initializer.ensures _ (search rules)
 
--- src/declaration.rt:285:5
-pub initializers-returns-clause-reading : goal.initializers-returns-clause-reading
-initializers-returns-clause-reading t c =
-    braces_end c.args.budget (below c.args.budget) _ _ _ _ _ c.loop-self.invariant.reading (sym c.at_mark.ensures ∙ c.loop-self-test.false)
+pub initializers-loop-self-smaller : goal.initializers-loop-self-smaller
+initializers-loop-self-smaller t c =
+    let d = c.args.budget in
+    in_braces_smaller d (below d) (initializer_in d (below d)) _ c.args.self.now.names (stack_of c.args.self.now.trees) d (length c.args.self.now.rest.now)
+    c.loop-self.self c.loop-self.height c.loop-self.invariant (sym c.at_mark.ensures ∙ c.loop-self-test.true) c.advance.new.self c.advance.ensures.kept c.advance.ensures.rest
+    (sym c.at_mark-in-loop-self.ensures ∙ c.if-at_mark.false) _ c.initializer-in-loop-self.new.self c.in_ok-initializer.field-0 c.in_ok-initializer.ensures
 
--- src/declaration.rt:285:5
-pub initializers-returns-clause-names : goal.initializers-returns-clause-names
-initializers-returns-clause-names t c =
-    c.loop-self.invariant.names
-
--- src/declaration.rt:285:5
-pub initializers-returns-clause-height : goal.initializers-returns-clause-height
-initializers-returns-clause-height t c =
-    c.loop-self.invariant.height
-
--- src/declaration.rt:285:5
-pub initializers-returns-clause-shorter : goal.initializers-returns-clause-shorter
-initializers-returns-clause-shorter t c =
-    c.loop-self.invariant.shorter
+pub initializers-returns : goal.initializers-returns
+initializers-returns t c =
+    let d = c.args.budget in
+    in_braces_end d (below d) (initializer_in d (below d)) _ c.args.self.now.names (stack_of c.args.self.now.trees) d (length c.args.self.now.rest.now)
+    c.loop-self.self c.loop-self.height c.loop-self.invariant (sym c.at_mark.ensures ∙ c.loop-self-test.false)

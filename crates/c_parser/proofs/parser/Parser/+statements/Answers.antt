@@ -1,326 +1,397 @@
--- Statements and blocks are read as the grammar reads them.
-use Rattle.std.proofs.Common.{[], false, suc, length, map, refl, sym, ap, ◌∙◌, subst, arith}
-use Rattle.c_types.specs.Trees.{seen, forest_of}
+-- Statements.
+use Rattle.std.proofs.Common.{Ok, ◌≡◌, ◌≤◌, ◌<◌, true, false, suc, length, [], refl, sym, ap, ◌∙◌, arith}
+use Rattle.std.specs.Prelude.{⊤}
+use Rattle.c_lexer.specs.declared.token.Punct.TheVariants.{LeftParenthesis, RightBrace}
+use Rattle.c_lexer.specs.declared.token.TokenKind.TheVariants as token
+use Rattle.c_syntax.specs.declared.kind.SynKind.TheVariants as kind
+use Rattle.c_syntax.specs.Trees.{◌then◌, three, plain_node, forest_of, height}
+use Rattle.c_syntax.specs.Tables.{stack_of}
 use Rattle.c_grammar.specs.Scopes.{Names, add, after, entries_behind, opened}
-use Rattle.c_grammar.specs.Answers.{found, wrong}
-use Rattle.c_grammar.specs.Reading as reading
-use Rattle.c_grammar.specs.Reading.{below}
-use Rattle.c_parser.specs.Gives.{GivesStatement, Stops}
-use Rattle.c_types.specs.declared.kind.SynKind.TheVariants as kind
-use Rattle.c_parser.proofs.Stopping.{gives_stop, gives_all_stop, gives_statement_stop, stops_before, found_before, fit_beyond}
-use Rattle.c_parser.proofs.ItemRows.{IsItems, items_start, items_next, items_stops, items_end}
-use Rattle.c_parser.proofs.Rows.{names_more}
-use Rattle.c_parser.proofs.Tokens.{behind_one_shorter}
-use Rattle.c_parts.proofs.NameLaws.{add_nothing}
-use Rattle.c_parser.proofs.NamesBehind.{names_two, names_three, names_for}
-use Rattle.c_parser.proofs.StatementReadings.{while_stops, while_read, if_stops, if_read, if_alone, if_else, do_stops, do_read, for_stops, for_read, body_expects, body_fits, body_items, statement_word, else_open, else_absent, else_follows}
-use Rattle.c_lexer.specs.declared.token.TokenKind.TheVariants as TokenKind
-use Rattle.c_parser.proofs.parser.Parser.+statements.Goals.{if_statement-then-s-via-then-s, if_statement-then-s-via-else-s+then-not-at_word}
+use Rattle.c_grammar.specs.Derivation.{ends_open}
+use Rattle.c_grammar.specs.Answers.{found}
+use Rattle.c_grammar.specs.Reading.{below, level}
+use Rattle.c_parts.specs.Says.{IsStatement}
+use Rattle.c_parser.specs.Gives.{itself, itself_high, no_more, SaysFor}
+use Rattle.c_parser.specs.Steps.{body_at}
+use Rattle.c_parser.proofs.Stopping.{gives_stop, gives_row_stop, stops_before, found_then, passed, stops_same}
+use Rattle.c_parser.proofs.Tokens.{shorter_behind, behind_one_shorter}
+use Rattle.c_parser.proofs.Made.{made, two_made, three_made, gives_same, keeps_same, keeps_then, pushed_on, read_from, row_from, trees_on}
+use Rattle.c_parser.proofs.Spans.{memory_stop, mark_stops, gives_within, gives_kept, scope_read, statement_read, statement_barred}
+use Rattle.c_parser.proofs.ItemRows.{item_row_start, item_row_stops, item_row_next, item_row_end}
+use Rattle.c_parser.proofs.NamesBehind.{block_entries}
+use Rattle.c_parser.proofs.BlockLaws.{brace_stops, body_inside, block_closed, statement_brace, statement_semicolon, statement_word, statement_other, statement_nothing, keyword_if, keyword_while, keyword_do, keyword_for, keyword_return, keyword_break, keyword_continue, keyword_none}
+use Rattle.c_parser.proofs.CompoundLaws.{if_shape, if_entered, then_inside, alone_inside, else_inside, while_shape, while_entered, while_body, do_shape, do_entered, do_end}
+use Rattle.c_parser.proofs.ForLaws.{for_open, for_inside, for_inner, parts_second, parts_third, parts_body, names_parts, for_entries}
 use Rattle.c_parser.proofs.parser.Parser.+statements.Goals as goal
 
--- src/statement.rt:74:9
-pub block_items-loop-row-init : goal.block_items-loop-row-init
-block_items-loop-row-init t c =
-    record {
-      reading = subst (λ xs. IsItems c.args.budget (below c.args.budget)
-          (reading.items_in c.args.budget (below c.args.budget) (suc (length c.args.self.now.rest.now)) c.args.self.now.names c.args.self.now.rest.now)
-          c.args.self.now.names c.args.self.now.rest.now xs)
-          (sym c.new-row.ensures.trees) (items_start c.args.budget (below c.args.budget) c.args.self.now.names c.args.self.now.rest.now);
-      names = sym (ap (λ xs. add c.args.self.now.names (entries_behind false (forest_of (map seen xs)))) c.new-row.ensures.trees ∙ add_nothing c.args.self.now.names);
-      height = omega (arith, c.new-row.ensures.height);
-      shorter = omega arith;
-    }
+-- ---- blocks
 
--- src/statement.rt:75:22
-pub block_items-returns-in_err-block_item-clause-reading :
-    goal.block_items-returns-in_err-block_item-clause-reading
-block_items-returns-in_err-block_item-clause-reading t c =
-    gives_all_stop _ _ _ c.in_err-block_item.field-0.0 c.from_residual.ensures
-    (items_stops c.args.budget (below c.args.budget) _ _ _ _ _ c.in_err-block_item.field-0.0 c.loop-row.invariant.reading
-    (sym c.at_mark.ensures ∙ c.loop-row-test.true) c.in_err-block_item.ensures.reading)
+pub block_items-loop-self-init : goal.block_items-loop-self-init
+block_items-loop-self-init t c =
+    item_row_start c.args.budget (below c.args.budget) c.args.self.now.names _ (stack_of c.args.self.now.trees) c.args.budget (suc (length c.args.self.now.rest.now)) c.args.self.now refl refl refl
+    (omega arith)
 
--- src/statement.rt:74:9
-pub block_items-loop-row-preserved : goal.block_items-loop-row-preserved
-block_items-loop-row-preserved t c =
-    record {
-      reading = items_next c.args.budget (below c.args.budget) _ _ _ _ _ _ _ _ c.loop-row.invariant.reading (sym c.at_mark.ensures ∙ c.loop-row-test.true)
-          c.in_ok-block_item.ensures.reading c.in_ok-block_item.ensures.names c.in_ok-block_item.ensures.shorter c.in_ok-push.ensures.trees;
-      names = names_more _ _ _ c.loop-row.row.trees.items c.in_ok-block_item.field-0.tree c.loop-row.invariant.names c.in_ok-block_item.ensures.names
-          ∙ ap (λ xs. add c.args.self.now.names (entries_behind false (forest_of (map seen xs)))) (sym c.in_ok-push.ensures.trees);
-      height = omega (arith, c.in_ok-push.ensures.height, c.loop-row.invariant.height, c.in_ok-block_item.ensures.height);
-      shorter = omega (arith, c.loop-row.invariant.shorter, c.in_ok-block_item.ensures.shorter);
-    }
+pub block_items-returns-in_err-block_item : goal.block_items-returns-in_err-block_item
+block_items-returns-in_err-block_item t c =
+    gives_row_stop itself_high no_more _ _ _ _ _ _ _ c.in_err-block_item.field-0.0 c.from_residual.ensures (
+    item_row_stops c.args.budget (below c.args.budget) c.args.self.now.names _ (stack_of c.args.self.now.trees) c.args.budget (suc (length c.args.self.now.rest.now)) c.loop-self.self
+    c.loop-self.height c.loop-self.invariant (sym c.at_mark.ensures ∙ c.loop-self-test.true) _ c.in_err-block_item.field-0.0 c.in_err-block_item.ensures)
 
--- src/statement.rt:56:5
-pub block_items-returns-clause-reading : goal.block_items-returns-clause-reading
-block_items-returns-clause-reading t c =
-    items_end c.args.budget (below c.args.budget) _ _ _ _ c.loop-row.invariant.reading (sym c.at_mark.ensures ∙ c.loop-row-test.false)
+pub block_items-loop-self-preserved : goal.block_items-loop-self-preserved
+block_items-loop-self-preserved t c =
+    item_row_next c.args.budget (below c.args.budget) c.args.self.now.names _ (stack_of c.args.self.now.trees) c.args.budget (suc (length c.args.self.now.rest.now)) c.loop-self.self
+    c.loop-self.height c.loop-self.invariant (sym c.at_mark.ensures ∙ c.loop-self-test.true) _ c.block_item.new.self c.in_ok-block_item.field-0 c.in_ok-block_item.ensures _ c.max-height.ensures
 
--- src/statement.rt:56:5
-pub block_items-returns-clause-names : goal.block_items-returns-clause-names
-block_items-returns-clause-names t c =
-    c.loop-row.invariant.names
+pub block_items-returns : goal.block_items-returns
+block_items-returns t c =
+    item_row_end c.args.budget (below c.args.budget) c.args.self.now.names _ (stack_of c.args.self.now.trees) c.args.budget (suc (length c.args.self.now.rest.now)) c.loop-self.self
+    c.loop-self.height c.loop-self.invariant (λ ts. ⊤) (sym c.at_mark.ensures ∙ c.loop-self-test.false) tt
 
--- src/statement.rt:56:5
-pub block_items-returns-clause-height : goal.block_items-returns-clause-height
-block_items-returns-clause-height t c =
-    c.loop-row.invariant.height
+pub body-returns-in_err-lower : goal.body-returns-in_err-lower
+body-returns-in_err-lower t c = gives_stop itself (λ t part. t.label.kind ≡ kind.Block) _ _ _ _ _ _ _ c.in_err-lower.field-0.0 c.from_residual.ensures (
+    brace_stops c.args.budget c.args.self.now.names c.args.self.now c.open_brace.new.self c.in_err-lower.field-0.0 c.in_err-lower.ensures)
 
--- src/statement.rt:56:5
-pub block_items-returns-clause-shorter : goal.block_items-returns-clause-shorter
-block_items-returns-clause-shorter t c =
-    c.loop-row.invariant.shorter
+pub body-returns-in_err-height : goal.body-returns-in_err-height
+body-returns-in_err-height t c = gives_stop itself (λ t part. t.label.kind ≡ kind.Block) _ _ _ _ _ _ _ c.in_err-height.field-0.0 c.from_residual-in_err-height.ensures (
+    stops_before _ _ _ _ c.in_err-height.field-0.0 (body_inside c.args.budget c.in_ok-lower.lower c.args.self.now c.open_brace.new.self c.in_ok-lower.ensures) c.in_err-height.ensures)
 
--- src/statement.rt:48:9
-pub body-returns-in_err-expect-clause-reading : goal.body-returns-in_err-expect-clause-reading
-body-returns-in_err-expect-clause-reading t c =
-    gives_stop _ _ _ c.in_err-expect.field-0.0 c.from_residual.ensures
-    (subst (Stops _ _) (sym c.in_err-expect.ensures.wrong)
-    (body_expects c.args.budget (below c.args.budget) c.args.self.now.names c.args.self.now.rest.now ∙ c.in_err-expect.ensures.no_tree _ ∙ ap wrong
-    (sym c.in_err-expect.ensures.kept)))
+pub body-returns-in_err-expect : goal.body-returns-in_err-expect
+body-returns-in_err-expect t c =
+    let row = c.in_ok-height.ensures in
+    gives_stop itself (λ t part. t.label.kind ≡ kind.Block) _ _ _ _ _ _ _ c.in_err-expect.field-0.0 c.from_residual-in_err-expect.ensures (
+    mark_stops _ RightBrace c.block_items.new.self c.expect.new.self _ _
+    (body_inside c.args.budget c.in_ok-lower.lower c.args.self.now c.open_brace.new.self c.in_ok-lower.ensures ∙ found_then _ _ _ _ row.found_is) c.in_err-expect.ensures)
 
--- src/statement.rt:49:21
-pub body-returns-in_err-lower-clause-reading : goal.body-returns-in_err-lower-clause-reading
-body-returns-in_err-lower-clause-reading t c =
-    gives_stop _ _ _ c.in_err-lower.field-0.0 c.from_residual-in_err-lower.ensures
-    (subst (Stops _ _) (sym c.in_err-lower.ensures.deep)
-    (body_fits c.args.budget 0 (below c.args.budget) c.args.self.now.names c.args.self.now.rest.now c.expect.new.self.rest.now c.start-start.result
-    c.start-start.ensures c.in_ok-expect.ensures.tree ∙ fit_beyond 1 c.args.budget _ _ c.in_err-lower.ensures.beyond))
+pub body-returns : goal.body-returns
+body-returns t c =
+    let names = c.args.self.now.names in
+    let brace = c.in_ok-lower.ensures in
+    let given = c.in_ok-height.ensures in
+    let row = row_from _ _ _ _ c.args.self.now c.open_brace.new.self c.block_items.new.self _ brace.kept given in
+    let close = c.in_ok-expect.ensures in
+    let node = plain_node kind.Block c.start-start.result (forest_of row.trees) in
+    let fewer : length c.expect.new.self.rest.now < length c.args.self.now.rest.now =
+    let a = given.shorter in let b = close.shorter in let e = ap length brace.rest_is in let g = behind_one_shorter c.args.self.now.rest.now in omega (arith, a, b, e, g) in
+    made (λ t. t.label.kind ≡ kind.Block) _ (λ t. add names (entries_behind false t.kids)) node (stack_of c.args.self.now.trees) c.args.budget (length c.args.self.now.rest.now) _ c.above_row.result
+    (c.above_row.ensures.tree row.trees (stack_of c.args.self.now.trees) (c.len-mark.ensures ∙ ap (λ trees. length (stack_of trees)) brace.kept.trees_are)
+    (trees_on row.trees _ _ c.block_items.new.self c.expect.new.self close.kept row.read.pushed))
+    (body_inside c.args.budget c.in_ok-lower.lower c.args.self.now c.open_brace.new.self brace ∙ found_then _ _ _ _ row.found_is
+    ∙ passed RightBrace c.block_items.new.self c.expect.new.self _ close
+    ∙ ap (λ n. found (plain_node kind.Block n (forest_of row.trees)) c.expect.new.self.rest.now) (sym c.start-start.ensures))
+    (close.kept.names_are ∙ row.read.names_are) refl
+    (let h = row.read.pushed.height_is in let l = given.low in let n = brace.below_is.next in omega (arith, h, l, n)) fewer
 
--- src/statement.rt:50:21
-pub body-returns-in_err-items-clause-reading : goal.body-returns-in_err-items-clause-reading
-body-returns-in_err-items-clause-reading t c =
-    gives_stop _ _ _ c.in_err-items.field-0.0 c.from_residual-in_err-items.ensures
-    (stops_before _ _ _ _ c.in_err-items.field-0.0 (body_items c.args.budget c.in_ok-lower.lower (below c.args.budget) c.args.self.now.names c.args.self.now.rest.now
-    c.expect.new.self.rest.now c.start-start.result c.start-start.ensures c.in_ok-expect.ensures.tree c.expect.new.self.names c.in_ok-lower.ensures.fits
-    c.in_ok-lower.ensures.lower c.in_ok-expect.ensures.names) c.in_err-items.ensures.reading)
+pub block-returns : goal.block-returns
+block-returns t c =
+    let given = c.in_ok-block.ensures in
+    statement_read _ _ _ _ _ _ c.in_ok-block.block false c.closed.result c.closed.ensures (
+    scope_read _ _ (λ t. t.label.kind ≡ kind.Block) (λ t. false ≡ ends_open t) (λ t. entries_behind false t.kids) c.args.budget c.args.budget _ (length c.args.self.now.rest.now) c.args.self.now
+    (record { alloc = c.args.self.now.alloc; rest = c.args.self.now.rest; names = c.open.new.self; trees = c.args.self.now.trees; parameters = c.args.self.now.parameters })
+    c.body.new.self _ c.in_ok-block.block
+    (ap (λ (n : Names). body_at c.args.budget (below c.args.budget) n c.args.self.now.rest.now) (sym c.in_ok-open.ensures.ok)) c.in_ok-open.ensures.ok refl given block_closed block_entries
+    c.close.ensures refl refl (omega arith) given.shorter)
 
--- src/statement.rt:51:9
-pub body-returns-in_err-expect-2-clause-reading : goal.body-returns-in_err-expect-2-clause-reading
-body-returns-in_err-expect-2-clause-reading t c =
-    gives_stop _ _ _ c.in_err-expect-2.field-0.0 c.from_residual-in_err-expect-2.ensures
-    (subst (Stops _ _) (sym c.in_err-expect-2.ensures.wrong)
-    (found_before _ _ _ _ _ (body_items c.args.budget c.in_ok-lower.lower (below c.args.budget) c.args.self.now.names c.args.self.now.rest.now
-    c.expect.new.self.rest.now c.start-start.result c.start-start.ensures c.in_ok-expect.ensures.tree c.expect.new.self.names c.in_ok-lower.ensures.fits
-    c.in_ok-lower.ensures.lower c.in_ok-expect.ensures.names) c.in_ok-items.ensures.reading ∙ c.in_err-expect-2.ensures.no_tree _ ∙ ap wrong
-    (sym c.in_err-expect-2.ensures.kept)))
+-- ---- `if`
 
--- src/statement.rt:29:5
-pub body-returns-clause-reading : goal.body-returns-clause-reading
-body-returns-clause-reading t c =
-    found_before _ _ _ _ _ (body_items c.args.budget c.in_ok-lower.lower (below c.args.budget) c.args.self.now.names c.args.self.now.rest.now c.expect.new.self.rest.now
-    c.start-start.result c.start-start.ensures c.in_ok-expect.ensures.tree c.expect.new.self.names c.in_ok-lower.ensures.fits c.in_ok-lower.ensures.lower
-    c.in_ok-expect.ensures.names) c.in_ok-items.ensures.reading ∙ c.in_ok-expect-2.ensures.tree _
-    ∙ ap (λ x. found x c.expect-2.new.self.rest.now) (sym c.in_ok-node.ensures.tree)
+pub if_statement-returns-in_err-lower : goal.if_statement-returns-in_err-lower
+if_statement-returns-in_err-lower t c = statement_barred _ 1 c.args.budget _ _ (if_shape c.args.budget (below c.args.budget) c.args.start c.args.self.now.names c.args.self.now.rest.now)
+    _ _ _ _ _ _ c.in_err-lower.field-0.0 c.from_residual.ensures c.in_err-lower.ensures.lower c.in_err-lower.ensures.rest
 
--- src/statement.rt:314:17
-pub do_statement-returns-in_err-x-clause-reading :
-    goal.do_statement-returns-in_err-x-clause-reading
-do_statement-returns-in_err-x-clause-reading t c =
-    gives_statement_stop _ _ _ c.in_err-x.field-0.0 c.from_residual-in_err-x.ensures
-    (do_stops c.args.budget c.in_ok-lower.lower (below c.args.budget) c.args.self.now.names c.args.start c.in_ok-lower.ensures.fits c.in_ok-lower.ensures.lower _ _ _
-    _ _ _ _ _ _ c.in_err-x.field-0.0 c.advance.ensures.names c.advance.ensures.rest c.in_ok-s.ensures.reading c.in_ok-s.ensures.names
-    c.in_ok-expect_word.ensures.tree c.in_ok-expect_word.ensures.names c.in_err-x.ensures.reading)
+pub if_statement-returns-in_err-condition : goal.if_statement-returns-in_err-condition
+if_statement-returns-in_err-condition t c =
+    gives_stop (λ s. s.part) IsStatement _ _ _ _ _ _ _ c.in_err-condition.field-0.0 c.from_residual-in_err-condition.ensures (
+    stops_before _ _ _ _ c.in_err-condition.field-0.0 (if_entered c.args.budget c.in_ok-lower.lower c.in_ok-lower.ensures.lower c.args.start c.args.self.now c.enter.new.self c.in_ok-lower.ensures.kept c.in_ok-lower.ensures.rest) c.in_err-condition.ensures)
 
--- src/statement.rt:315:9
-pub do_statement-returns-in_err-expect-clause-reading :
-    goal.do_statement-returns-in_err-expect-clause-reading
-do_statement-returns-in_err-expect-clause-reading t c =
-    gives_statement_stop _ _ _ c.in_err-expect.field-0.0 c.from_residual-in_err-expect.ensures
-    (subst (Stops _ _) (sym c.in_err-expect.ensures.wrong)
-    (do_read c.args.budget c.in_ok-lower.lower (below c.args.budget) c.args.self.now.names c.args.start c.in_ok-lower.ensures.fits c.in_ok-lower.ensures.lower _ _
-    _ _ _ _ _ _ _ (seen c.in_ok-x.x.tree) c.advance.ensures.names c.advance.ensures.rest c.in_ok-s.ensures.reading c.in_ok-s.ensures.names
-    c.in_ok-expect_word.ensures.tree c.in_ok-expect_word.ensures.names c.in_ok-x.ensures.reading ∙ c.in_err-expect.ensures.no_tree _ ∙ ap wrong
-    (sym c.in_err-expect.ensures.kept)))
+pub if_statement-returns : goal.if_statement-returns
+if_statement-returns t c =
+    let entered = c.in_ok-lower.ensures in
+    let x = c.in_ok-condition.ensures in
+    let fewer = shorter_behind c.args.self.now.rest.now c.enter.new.self.rest.now c.condition.new.self.rest.now entered.rest x.shorter in
+    gives_within (λ s. s.part) IsStatement _ _ _ (suc c.in_ok-lower.lower) c.args.budget (length c.condition.new.self.rest.now) (length c.args.self.now.rest.now) _ _
+    (let n = entered.lower.next in omega (arith, n)) (omega (arith, fewer)) (
+    gives_same (λ s. s.part) IsStatement _ _ _ _ _ _ _ _
+    (if_entered c.args.budget c.in_ok-lower.lower entered.lower c.args.start c.args.self.now c.enter.new.self entered.kept entered.rest ∙ found_then _ _ x.tree _ x.found_is) (
+    gives_kept (λ s. s.part) IsStatement _ _ _ c.args.self.now c.enter.new.self _ _ entered.kept
+    (c.branches.ensures c.enter.new.self.names x.tree (stack_of c.enter.new.self.trees) x.read)))
 
--- src/statement.rt:292:5
-pub do_statement-returns-clause-reading : goal.do_statement-returns-clause-reading
-do_statement-returns-clause-reading t c =
-    do_read c.args.budget c.in_ok-lower.lower (below c.args.budget) c.args.self.now.names c.args.start c.in_ok-lower.ensures.fits c.in_ok-lower.ensures.lower _ _ _ _ _ _
-    _ _ _ (seen c.in_ok-x.x.tree) c.advance.ensures.names c.advance.ensures.rest c.in_ok-s.ensures.reading c.in_ok-s.ensures.names c.in_ok-expect_word.ensures.tree
-    c.in_ok-expect_word.ensures.names c.in_ok-x.ensures.reading ∙ c.in_ok-expect.ensures.tree _
-    ∙ ap (λ x. found x c.expect.new.self.rest.now) (sym (ap (λ p. seen p.tree) c.closed.ensures ∙ c.in_ok-above_two.ensures.tree))
+pub branches-returns-in_err-then : goal.branches-returns-in_err-then
+branches-returns-in_err-then t c = λ names x under read.
+    gives_stop (λ s. s.part) IsStatement _ _ _ _ _ _ _ c.in_err-then.field-0.0 c.from_residual.ensures (
+    stops_before _ _ _ _ c.in_err-then.field-0.0 (then_inside c.args.lower c.args.start names c.args.self.now.names x c.args.self.now.rest.now read.names_are) c.in_err-then.ensures)
 
--- src/statement.rt:292:5
-pub do_statement-returns-clause-names : goal.do_statement-returns-clause-names
-do_statement-returns-clause-names t c =
-    c.in_ok-expect.ensures.names ∙ names_two _ _ _ kind.Do [] c.args.start _ _ _ refl (ap (λ p. seen p.tree) c.closed.ensures ∙ c.in_ok-above_two.ensures.tree)
-    (c.in_ok-s.ensures.names ∙ ap (λ (n : Names). after n (seen c.in_ok-s.field-0.part.tree)) c.advance.ensures.names)
-    (c.in_ok-x.ensures.names ∙ ap (λ (n : Names). after n (seen c.in_ok-x.x.tree)) c.in_ok-expect_word.ensures.names)
+pub branches-returns-then-not-takes_else : goal.branches-returns-then-not-takes_else
+branches-returns-then-not-takes_else t c = λ names x under read.
+    let s = c.in_ok-then.ensures in
+    let part = c.in_ok-then.then.part in
+    let before = c.args.self.now in
+    let mid = c.statement.new.self in
+    two_made kind.If [] c.args.start refl (λ t. true ≡ ends_open t) _ (suc c.args.lower) c.args.lower (length before.rest.now) refl names x under c.args.condition part
+    before before _ _ _ mid mid _ (Ok c.in_ok-part.part) read c.requires.fits (keeps_same before) s (keeps_same mid) refl s.shorter c.in_ok-part.ensures.tree
+    (alone_inside c.args.lower c.args.start names x before mid s.tree read.names_are s.found_is _ _ s.said c.takes_else.ensures c.if-not-takes_else.true) refl
 
--- src/statement.rt:292:5
-pub do_statement-returns-clause-shorter : goal.do_statement-returns-clause-shorter
-do_statement-returns-clause-shorter t c =
-    let a = behind_one_shorter c.args.self.now.rest.now in let b = ap length c.advance.ensures.rest in omega
-    (arith, a, b, c.in_ok-s.ensures.shorter, c.in_ok-expect_word.ensures.shorter, c.in_ok-x.ensures.shorter, c.in_ok-expect.ensures.shorter)
+pub branches-returns-in_err-part-2 : goal.branches-returns-in_err-part-2
+branches-returns-in_err-part-2 t c = λ names x under read.
+    let s = c.in_ok-then.ensures in
+    let before = c.args.self.now in
+    let mid = c.statement.new.self in
+    let on = c.advance.new.self in
+    gives_stop (λ s. s.part) IsStatement _ _ _ _ _ _ _ c.in_err-part-2.field-0.0 c.from_residual-in_err-part-2.ensures (
+    stops_before _ _ _ _ c.in_err-part-2.field-0.0
+    (else_inside c.args.lower c.args.start names x before mid s.tree read.names_are s.found_is _ _ s.said c.takes_else.ensures c.if-not-takes_else.false on
+    (c.advance.ensures.kept.names_are ∙ s.read.names_are) c.advance.ensures.rest)
+    c.in_err-part-2.ensures)
 
--- src/statement.rt:343:21
-pub for_statement-returns-in_err-first-clause-reading :
-    goal.for_statement-returns-in_err-first-clause-reading
-for_statement-returns-in_err-first-clause-reading t c =
-    gives_statement_stop _ _ _ c.in_err-first.field-0.0 c.from_residual-in_err-first.ensures
-    (for_stops c.args.budget c.in_ok-lower.lower (below c.args.budget) c.args.self.now.names c.args.start c.in_ok-lower.ensures.fits c.in_ok-lower.ensures.lower _ _
-    _ _ _ c.in_err-first.field-0.0 (c.in_ok-open.ensures.ok ∙ ap opened (c.in_ok-expect.ensures.names ∙ c.advance.ensures.names)) c.advance.ensures.rest
-    c.in_ok-expect.ensures.tree c.in_err-first.ensures.reading)
+pub branches-returns-in_err-part-3 : goal.branches-returns-in_err-part-3
+branches-returns-in_err-part-3 t c = λ names x under read.
+    let s = c.in_ok-then.ensures in
+    let before = c.args.self.now in
+    let mid = c.statement.new.self in
+    let on = c.advance.new.self in
+    let u = c.in_ok-part-2.ensures in
+    gives_stop (λ s. s.part) IsStatement _ _ _ _ _ _ _ c.in_err-part-3.field-0.0 c.from_residual-in_err-part-3.ensures (
+    memory_stop _ _ c.in_err-part-3.field-0.0 (
+    c.in_err-part-3.ensures.tree x s.tree u.tree under (stack_of before.trees) (stack_of on.trees) read.pushed
+    (pushed_on s.tree (stack_of before.trees) _ mid on c.advance.ensures.kept s.read.pushed) u.read.pushed))
 
--- src/statement.rt:320:5
-pub for_statement-returns-clause-reading : goal.for_statement-returns-clause-reading
-for_statement-returns-clause-reading t c =
-    found_before _ _ _ _ _ (for_read c.args.budget c.in_ok-lower.lower (below c.args.budget) c.args.self.now.names c.args.start c.in_ok-lower.ensures.fits
-    c.in_ok-lower.ensures.lower _ _ _ _ _ _ _ _ _ _ _ _ (seen c.in_ok-first.first.tree) (seen c.in_ok-condition.condition.tree) (seen c.in_ok-step.step.tree)
-    (c.in_ok-open.ensures.ok ∙ ap opened (c.in_ok-expect.ensures.names ∙ c.advance.ensures.names)) c.advance.ensures.rest c.in_ok-expect.ensures.tree
-    c.in_ok-first.ensures.reading c.in_ok-first.ensures.names
-    c.in_ok-condition.ensures.reading c.in_ok-expect-2.ensures.tree (c.in_ok-expect-2.ensures.names ∙ c.in_ok-condition.ensures.names)
-    c.in_ok-step.ensures.reading c.in_ok-expect-3.ensures.tree (c.in_ok-expect-3.ensures.names ∙ c.in_ok-step.ensures.names)) c.in_ok-s.ensures.reading ∙ ap
-    (λ x. found x c.statement.new.self.rest.now) (sym c.in_ok-part.ensures.tree)
+pub branches-returns : goal.branches-returns
+branches-returns t c = λ names x under read.
+    let s = c.in_ok-then.ensures in
+    let part = c.in_ok-then.then.part in
+    let before = c.args.self.now in
+    let mid = c.statement.new.self in
+    let on = c.advance.new.self in
+    let last = c.statement-2.new.self in
+    let u = c.in_ok-part-2.ensures in
+    let fewer : length last.rest.now < length before.rest.now =
+    let a = s.shorter in let b = u.shorter in let e = ap length c.advance.ensures.rest in let g = behind_one_shorter mid.rest.now in omega (arith, a, b, e, g) in
+    three_made kind.If [] c.args.start refl (λ t. c.in_ok-part-2.field-0.ends_open ≡ ends_open t) _ (suc c.args.lower) c.args.lower (length before.rest.now) refl names x under
+    c.args.condition part c.in_ok-part-2.field-0.part before before _ _ _ mid on _ _ _ last last _ (Ok c.in_ok-part-3.part) read c.requires.fits (keeps_same before) s c.advance.ensures.kept
+    u (keeps_same last) refl fewer c.in_ok-part-3.ensures.tree
+    (else_inside c.args.lower c.args.start names x before mid s.tree read.names_are s.found_is _ _ s.said c.takes_else.ensures c.if-not-takes_else.false on
+    (c.advance.ensures.kept.names_are ∙ s.read.names_are) c.advance.ensures.rest ∙ found_then _ _ u.tree _ u.found_is) u.said
 
--- src/statement.rt:320:5
-pub for_statement-returns-clause-names : goal.for_statement-returns-clause-names
-for_statement-returns-clause-names t c =
-    names_for _ _ _ _ _ _ c.args.start _ _ _ _ _ _ c.in_ok-part.ensures.tree
-    (c.in_ok-first.ensures.names ∙ ap (λ (n : Names). after n (seen c.in_ok-first.first.tree))
-    (c.in_ok-open.ensures.ok ∙ ap opened (c.in_ok-expect.ensures.names ∙ c.advance.ensures.names)))
-    (c.in_ok-expect-2.ensures.names ∙ c.in_ok-condition.ensures.names) (c.in_ok-expect-3.ensures.names ∙ c.in_ok-step.ensures.names) c.in_ok-s.ensures.names
-    c.close.ensures
+-- ---- `while` and `do`
 
--- src/statement.rt:320:5
-pub for_statement-returns-clause-shorter : goal.for_statement-returns-clause-shorter
-for_statement-returns-clause-shorter t c =
-    let a = behind_one_shorter c.args.self.now.rest.now in let b = ap length c.advance.ensures.rest in omega (
-      arith,
-      a,
-      b,
-      c.in_ok-expect.ensures.shorter,
-      c.in_ok-first.ensures.shorter,
-      c.in_ok-condition.ensures.shorter,
-      c.in_ok-expect-2.ensures.shorter,
-      c.in_ok-step.ensures.shorter,
-      c.in_ok-expect-3.ensures.shorter,
-      c.in_ok-s.ensures.shorter,
-    )
+pub while_statement-returns-in_err-lower : goal.while_statement-returns-in_err-lower
+while_statement-returns-in_err-lower t c = statement_barred _ 1 c.args.budget _ _ (while_shape c.args.budget (below c.args.budget) c.args.start c.args.self.now.names c.args.self.now.rest.now)
+    _ _ _ _ _ _ c.in_err-lower.field-0.0 c.from_residual.ensures c.in_err-lower.ensures.lower c.in_err-lower.ensures.rest
 
--- src/statement.rt:247:17
-pub if_statement-returns-in_err-x-clause-reading :
-    goal.if_statement-returns-in_err-x-clause-reading
-if_statement-returns-in_err-x-clause-reading t c =
-    gives_statement_stop _ _ _ c.in_err-x.field-0.0 c.from_residual-in_err-x.ensures
-    (if_stops c.args.budget c.in_ok-lower.lower (below c.args.budget) c.args.self.now.names c.args.start c.in_ok-lower.ensures.fits c.in_ok-lower.ensures.lower _ _ _
-    _ c.in_err-x.field-0.0 c.advance.ensures.names c.advance.ensures.rest c.in_err-x.ensures.reading)
+pub while_statement-returns-in_err-condition : goal.while_statement-returns-in_err-condition
+while_statement-returns-in_err-condition t c =
+    gives_stop (λ s. s.part) IsStatement _ _ _ _ _ _ _ c.in_err-condition.field-0.0 c.from_residual-in_err-condition.ensures (
+    stops_before _ _ _ _ c.in_err-condition.field-0.0 (while_entered c.args.budget c.in_ok-lower.lower c.in_ok-lower.ensures.lower c.args.start c.args.self.now c.enter.new.self c.in_ok-lower.ensures.kept c.in_ok-lower.ensures.rest) c.in_err-condition.ensures)
 
--- src/statement.rt:248:17
-pub if_statement-returns-in_err-s-clause-reading :
-    goal.if_statement-returns-in_err-s-clause-reading
-if_statement-returns-in_err-s-clause-reading t c =
-    gives_statement_stop _ _ _ c.in_err-s.field-0.0 c.from_residual-in_err-s.ensures
-    (stops_before _ _ _ _ c.in_err-s.field-0.0 (if_read c.args.budget c.in_ok-lower.lower (below c.args.budget) c.args.self.now.names c.args.start
-    c.in_ok-lower.ensures.fits c.in_ok-lower.ensures.lower _ _ _ _ _ (seen c.in_ok-x.x.tree) c.advance.ensures.names c.advance.ensures.rest
-    c.in_ok-x.ensures.reading c.in_ok-x.ensures.names) c.in_err-s.ensures.reading)
+pub while_statement-returns-in_err-part : goal.while_statement-returns-in_err-part
+while_statement-returns-in_err-part t c =
+    let x = c.in_ok-condition.ensures in
+    gives_stop (λ s. s.part) IsStatement _ _ _ _ _ _ _ c.in_err-part.field-0.0 c.from_residual-in_err-part.ensures (
+    stops_before _ _ _ _ c.in_err-part.field-0.0 (while_entered c.args.budget c.in_ok-lower.lower c.in_ok-lower.ensures.lower c.args.start c.args.self.now c.enter.new.self c.in_ok-lower.ensures.kept c.in_ok-lower.ensures.rest ∙ found_then _ _ x.tree _ x.found_is
+    ∙ while_body c.in_ok-lower.lower c.args.start c.enter.new.self.names c.condition.new.self.names x.tree c.condition.new.self.rest.now x.read.names_are) c.in_err-part.ensures)
 
--- src/statement.rt:251:13
-pub if_statement-returns-then-s-clause-reading : goal.if_statement-returns-then-s-clause-reading
-if_statement-returns-then-s-clause-reading t c =
-    found_before _ _ _ _ _ (if_read c.args.budget c.in_ok-lower.lower (below c.args.budget) c.args.self.now.names c.args.start c.in_ok-lower.ensures.fits
-    c.in_ok-lower.ensures.lower _ _ _ _ _ (seen c.in_ok-x.x.tree) c.advance.ensures.names c.advance.ensures.rest c.in_ok-x.ensures.reading c.in_ok-x.ensures.names)
-    c.in_ok-s.ensures.reading
-    ∙ if_alone c.args.budget c.in_ok-lower.lower (below c.args.budget) c.args.self.now.names c.args.start c.in_ok-lower.ensures.fits c.in_ok-lower.ensures.lower _ _
-    _ _ (elim c.then-s.branch [
-      | if_statement-then-s-via-then-s w ↦ else_open _ c.in_ok-s.s.ends_open _ c.in_ok-s.s.open_is w.if-s.true
-      | if_statement-then-s-via-else-s+then-not-at_word w ↦ else_absent _ _ (sym w.at_word.ensures ∙ w.if-not-at_word.true)
-    ])
-    ∙ ap (λ x. found x c.statement.new.self.rest.now) (sym c.in_ok-part.ensures.tree)
+pub while_statement-returns : goal.while_statement-returns
+while_statement-returns t c =
+    let entered = c.in_ok-lower.ensures in
+    let given = c.in_ok-condition.ensures in
+    let x = read_from _ _ _ _ c.args.self.now c.enter.new.self c.condition.new.self _ entered.kept given in
+    let mid = c.condition.new.self in
+    let last = c.statement.new.self in
+    let s = c.in_ok-part.ensures in
+    let behind = shorter_behind c.args.self.now.rest.now c.enter.new.self.rest.now mid.rest.now entered.rest given.shorter in
+    let fewer : length last.rest.now < length c.args.self.now.rest.now = let b = s.shorter in omega (arith, behind, b) in
+    two_made kind.While [] c.args.start refl (λ t. c.in_ok-part.field-0.ends_open ≡ ends_open t) _ c.args.budget c.in_ok-lower.lower (length c.args.self.now.rest.now) entered.lower.next
+    c.args.self.now.names x.tree (stack_of c.args.self.now.trees) c.in_ok-condition.condition c.in_ok-part.field-0.part mid mid _ _ _ last last _ (Ok c.in_ok-part-2.part)
+    x.read x.low (keeps_same mid) s (keeps_same last) refl fewer c.in_ok-part-2.ensures.tree
+    (while_entered c.args.budget c.in_ok-lower.lower entered.lower c.args.start c.args.self.now c.enter.new.self entered.kept entered.rest ∙ found_then _ _ x.tree _ x.found_is
+    ∙ while_body c.in_ok-lower.lower c.args.start c.enter.new.self.names mid.names x.tree mid.rest.now (x.read.names_are ∙ ap (λ (n : Names). after n x.tree) (sym entered.kept.names_are))
+    ∙ found_then _ _ s.tree _ s.found_is) s.said
 
--- src/statement.rt:251:13
-pub if_statement-returns-then-s-clause-names : goal.if_statement-returns-then-s-clause-names
-if_statement-returns-then-s-clause-names t c =
-    names_two _ _ _ kind.If [] c.args.start _ _ _ refl c.in_ok-part.ensures.tree
-    (c.in_ok-x.ensures.names ∙ ap (λ (n : Names). after n (seen c.in_ok-x.x.tree)) c.advance.ensures.names) c.in_ok-s.ensures.names
+pub do_statement-returns-in_err-lower : goal.do_statement-returns-in_err-lower
+do_statement-returns-in_err-lower t c = statement_barred _ 1 c.args.budget _ _ (do_shape c.args.budget (below c.args.budget) c.args.start c.args.self.now.names c.args.self.now.rest.now)
+    _ _ _ _ _ _ c.in_err-lower.field-0.0 c.from_residual.ensures c.in_err-lower.ensures.lower c.in_err-lower.ensures.rest
 
--- src/statement.rt:251:13
-pub if_statement-returns-then-s-clause-shorter : goal.if_statement-returns-then-s-clause-shorter
-if_statement-returns-then-s-clause-shorter t c =
-    let a = behind_one_shorter c.args.self.now.rest.now in let b = ap length c.advance.ensures.rest in omega
-    (arith, a, b, c.in_ok-x.ensures.shorter, c.in_ok-s.ensures.shorter)
+pub do_statement-returns-in_err-body : goal.do_statement-returns-in_err-body
+do_statement-returns-in_err-body t c =
+    gives_stop (λ s. s.part) IsStatement _ _ _ _ _ _ _ c.in_err-body.field-0.0 c.from_residual-in_err-body.ensures (
+    stops_before _ _ _ _ c.in_err-body.field-0.0 (do_entered c.args.budget c.in_ok-lower.lower c.in_ok-lower.ensures.lower c.args.start c.args.self.now c.enter.new.self c.in_ok-lower.ensures.kept c.in_ok-lower.ensures.rest) c.in_err-body.ensures)
 
--- src/statement.rt:257:17
-pub if_statement-returns-in_err-t-clause-reading :
-    goal.if_statement-returns-in_err-t-clause-reading
-if_statement-returns-in_err-t-clause-reading t c =
-    gives_statement_stop _ _ _ c.in_err-t.field-0.0 c.from_residual-in_err-t.ensures
-    (stops_before _ _ _ _ c.in_err-t.field-0.0 (found_before _ _ _ _ _
-    (if_read c.args.budget c.in_ok-lower.lower (below c.args.budget) c.args.self.now.names c.args.start c.in_ok-lower.ensures.fits c.in_ok-lower.ensures.lower _
-    _ _ _ _ (seen c.in_ok-x.x.tree) c.advance.ensures.names c.advance.ensures.rest c.in_ok-x.ensures.reading c.in_ok-x.ensures.names) c.in_ok-s.ensures.reading
-    ∙ if_else c.args.budget c.in_ok-lower.lower (below c.args.budget) c.args.self.now.names c.args.start c.in_ok-lower.ensures.fits c.in_ok-lower.ensures.lower
-    c.condition.new.self.names c.advance-2.new.self.names (seen c.in_ok-x.x.tree) (seen c.in_ok-s.s.part.tree) _ _
-    (else_follows _ c.in_ok-s.s.ends_open _ c.in_ok-s.s.open_is c.if-s.false (sym c.at_word.ensures ∙ c.if-not-at_word.false)) c.advance-2.ensures.rest
-    (c.advance-2.ensures.names ∙ c.in_ok-s.ensures.names))
-    c.in_err-t.ensures.reading)
+pub do_statement-returns-in_err-condition : goal.do_statement-returns-in_err-condition
+do_statement-returns-in_err-condition t c =
+    let s = c.in_ok-body.ensures in
+    gives_stop (λ s. s.part) IsStatement _ _ _ _ _ _ _ c.in_err-condition.field-0.0 c.from_residual-in_err-condition.ensures (
+    stops_before _ _ _ _ c.in_err-condition.field-0.0 (do_entered c.args.budget c.in_ok-lower.lower c.in_ok-lower.ensures.lower c.args.start c.args.self.now c.enter.new.self c.in_ok-lower.ensures.kept c.in_ok-lower.ensures.rest ∙ found_then _ _ s.tree _ s.found_is
+    ∙ do_end (level c.in_ok-lower.lower (below c.in_ok-lower.lower)) c.args.start c.enter.new.self.names c.statement.new.self.names s.tree c.statement.new.self.rest.now s.read.names_are)
+    c.in_err-condition.ensures)
 
--- src/statement.rt:227:5
-pub if_statement-returns-clause-reading : goal.if_statement-returns-clause-reading
-if_statement-returns-clause-reading t c =
-    found_before _ _ _ _ _ (found_before _ _ _ _ _ (if_read c.args.budget c.in_ok-lower.lower (below c.args.budget) c.args.self.now.names c.args.start
-    c.in_ok-lower.ensures.fits c.in_ok-lower.ensures.lower _ _ _ _ _ (seen c.in_ok-x.x.tree) c.advance.ensures.names c.advance.ensures.rest c.in_ok-x.ensures.reading
-    c.in_ok-x.ensures.names) c.in_ok-s.ensures.reading
-    ∙ if_else c.args.budget c.in_ok-lower.lower (below c.args.budget) c.args.self.now.names c.args.start c.in_ok-lower.ensures.fits c.in_ok-lower.ensures.lower
-    c.condition.new.self.names c.advance-2.new.self.names (seen c.in_ok-x.x.tree) (seen c.in_ok-s.s.part.tree) _ _
-    (else_follows _ c.in_ok-s.s.ends_open _ c.in_ok-s.s.open_is c.if-s.false (sym c.at_word.ensures ∙ c.if-not-at_word.false)) c.advance-2.ensures.rest
-    (c.advance-2.ensures.names ∙ c.in_ok-s.ensures.names))
-    c.in_ok-t.ensures.reading ∙ ap (λ x. found x c.statement-2.new.self.rest.now) (sym c.in_ok-part-2.ensures.tree)
+pub do_statement-returns : goal.do_statement-returns
+do_statement-returns t c =
+    let entered = c.in_ok-lower.ensures in
+    let given = c.in_ok-body.ensures in
+    let s = read_from _ _ _ _ c.args.self.now c.enter.new.self c.statement.new.self _ entered.kept given in
+    let x = c.in_ok-condition.ensures in
+    let mid = c.statement.new.self in
+    let last = c.do_condition.new.self in
+    let behind = shorter_behind c.args.self.now.rest.now c.enter.new.self.rest.now mid.rest.now entered.rest given.shorter in
+    let fewer : length last.rest.now < length c.args.self.now.rest.now = let b = x.shorter in omega (arith, behind, b) in
+    statement_read _ _ _ _ _ _ c.in_ok-part.part false c.closed.result c.closed.ensures (
+    two_made kind.Do [] c.args.start refl (λ t. false ≡ ends_open t) _ c.args.budget c.in_ok-lower.lower (length c.args.self.now.rest.now) entered.lower.next
+    c.args.self.now.names s.tree (stack_of c.args.self.now.trees) c.in_ok-body.field-0.part c.in_ok-condition.condition mid mid _ _ _ last last _ (Ok c.in_ok-part.part)
+    s.read s.low (keeps_same mid) x (keeps_same last) refl fewer c.in_ok-part.ensures.tree
+    (do_entered c.args.budget c.in_ok-lower.lower entered.lower c.args.start c.args.self.now c.enter.new.self entered.kept entered.rest ∙ found_then _ _ s.tree _ s.found_is
+    ∙ do_end (level c.in_ok-lower.lower (below c.in_ok-lower.lower)) c.args.start c.enter.new.self.names mid.names s.tree mid.rest.now
+    (s.read.names_are ∙ ap (λ (n : Names). after n s.tree) (sym entered.kept.names_are)) ∙ found_then _ _ x.tree _ x.found_is) refl)
 
--- src/statement.rt:227:5
-pub if_statement-returns-clause-names : goal.if_statement-returns-clause-names
-if_statement-returns-clause-names t c =
-    names_three _ _ _ _ kind.If [] c.args.start _ _ _ _ refl c.in_ok-part-2.ensures.tree
-    (c.in_ok-x.ensures.names ∙ ap (λ (n : Names). after n (seen c.in_ok-x.x.tree)) c.advance.ensures.names) c.in_ok-s.ensures.names
-    (c.in_ok-t.ensures.names ∙ ap (λ (n : Names). after n (seen c.in_ok-t.t.part.tree)) c.advance-2.ensures.names)
+-- ---- `for`
 
--- src/statement.rt:227:5
-pub if_statement-returns-clause-shorter : goal.if_statement-returns-clause-shorter
-if_statement-returns-clause-shorter t c =
-    let a = behind_one_shorter c.args.self.now.rest.now in let b = ap length c.advance.ensures.rest in let d = behind_one_shorter c.statement.new.self.rest.now in let e
-    = ap length c.advance-2.ensures.rest in
-    omega (arith, a, b, d, e, c.in_ok-x.ensures.shorter, c.in_ok-s.ensures.shorter, c.in_ok-t.ensures.shorter)
+pub for_statement-returns-in_err-lower : goal.for_statement-returns-in_err-lower
+for_statement-returns-in_err-lower t c =
+    statement_barred _ 1 c.args.budget _ _ refl _ _ _ _ _ _ c.in_err-lower.field-0.0 c.from_residual.ensures c.in_err-lower.ensures.lower c.in_err-lower.ensures.rest
 
--- src/statement.rt:104:5
-pub statement-returns-in-Word-clause-reading : goal.statement-returns-in-Word-clause-reading
-statement-returns-in-Word-clause-reading t c =
-    subst (λ x. GivesStatement x c.keyword.new.self.rest.now c.keyword.result)
-    (sym (statement_word c.args.budget (below c.args.budget) c.args.self.now.names c.args.self.now.rest.now c.in-Some.token.now c.as_slice.result.now
-    c.in-Some.ensures.some
-    (c.in-Word.is ∙ ap TokenKind.Word (sym c.as_slice.ensures)))) c.keyword.ensures.reading
+pub for_statement-returns-in_err-expect : goal.for_statement-returns-in_err-expect
+for_statement-returns-in_err-expect t c =
+    let lower = c.in_ok-lower.lower in
+    gives_stop (λ s. s.part) IsStatement _ _ _ _ _ _ _ c.in_err-expect.field-0.0 c.from_residual-in_err-expect.ensures (
+    mark_stops _ LeftParenthesis c.enter.new.self c.expect.new.self (for_open c.args.budget (level lower (below lower)) c.enter.new.self.names c.args.start) _
+    (for_inside c.args.budget lower c.in_ok-lower.ensures.lower c.args.start c.args.self.now c.enter.new.self c.in_ok-lower.ensures.kept c.in_ok-lower.ensures.rest) c.in_err-expect.ensures)
 
--- src/statement.rt:284:17
-pub while_statement-returns-in_err-x-clause-reading :
-    goal.while_statement-returns-in_err-x-clause-reading
-while_statement-returns-in_err-x-clause-reading t c =
-    gives_statement_stop _ _ _ c.in_err-x.field-0.0 c.from_residual-in_err-x.ensures
-    (while_stops c.args.budget c.in_ok-lower.lower (below c.args.budget) c.args.self.now.names c.args.start c.in_ok-lower.ensures.fits c.in_ok-lower.ensures.lower _
-    _ _ _ c.in_err-x.field-0.0 c.advance.ensures.names c.advance.ensures.rest c.in_err-x.ensures.reading)
+pub for_statement-returns-in_err-statement : goal.for_statement-returns-in_err-statement
+for_statement-returns-in_err-statement t c =
+    let lower = c.in_ok-lower.lower in
+    let passes = c.in_ok-expect.ensures in
+    gives_stop (λ s. s.part) IsStatement _ _ _ _ _ _ _ c.in_err-statement.field-0.0 c.from_residual-in_err-statement.ensures (
+    stops_same _ _ _ c.in_err-statement.field-0.0
+    (for_inner c.args.budget lower c.in_ok-lower.ensures.lower c.args.start c.args.self.now c.enter.new.self c.expect.new.self c.open.new.self c.in_ok-lower.ensures.kept c.in_ok-lower.ensures.rest passes c.in_ok-open.ensures.ok)
+    c.in_err-statement.ensures)
 
--- src/statement.rt:285:17
-pub while_statement-returns-in_err-s-clause-reading :
-    goal.while_statement-returns-in_err-s-clause-reading
-while_statement-returns-in_err-s-clause-reading t c =
-    gives_statement_stop _ _ _ c.in_err-s.field-0.0 c.from_residual-in_err-s.ensures
-    (stops_before _ _ _ _ c.in_err-s.field-0.0 (while_read c.args.budget c.in_ok-lower.lower (below c.args.budget) c.args.self.now.names c.args.start
-    c.in_ok-lower.ensures.fits c.in_ok-lower.ensures.lower _ _ _ _ _ (seen c.in_ok-x.x.tree) c.advance.ensures.names c.advance.ensures.rest
-    c.in_ok-x.ensures.reading c.in_ok-x.ensures.names) c.in_err-s.ensures.reading)
+pub for_statement-returns : goal.for_statement-returns
+for_statement-returns t c =
+    let entered = c.in_ok-lower.ensures in
+    let lower = c.in_ok-lower.lower in
+    let passes = c.in_ok-expect.ensures in
+    let given = c.in_ok-statement.ensures in
+    let before = c.args.self.now in
+    let kept = keeps_then before c.enter.new.self c.expect.new.self entered.kept passes.kept in
+    let fewer : length c.for_parts.new.self.rest.now < length before.rest.now =
+    let a = given.shorter in let b = passes.shorter in let e = ap length entered.rest in let g = behind_one_shorter before.rest.now in omega (arith, a, b, e, g) in
+    scope_read _ _ (λ t. SaysFor t c.in_ok-statement.statement) (λ t. IsStatement t c.in_ok-statement.statement) (λ t. entries_behind false t.kids) (suc lower) c.args.budget _ (length before.rest.now)
+    before (record { alloc = c.expect.new.self.alloc; rest = c.expect.new.self.rest; names = c.open.new.self; trees = c.expect.new.self.trees; parameters = c.expect.new.self.parameters })
+    c.for_parts.new.self _ c.in_ok-statement.statement.part
+    (for_inner c.args.budget lower entered.lower c.args.start before c.enter.new.self c.expect.new.self c.open.new.self entered.kept entered.rest passes c.in_ok-open.ensures.ok)
+    (c.in_ok-open.ensures.ok ∙ ap opened kept.names_are) kept.trees_are given (λ t said. said.open_is) (λ t said. for_entries t said.kind_is) c.close.ensures refl refl
+    (let n = entered.lower.next in omega (arith, n)) fewer
 
--- src/statement.rt:264:5
-pub while_statement-returns-clause-reading : goal.while_statement-returns-clause-reading
-while_statement-returns-clause-reading t c =
-    found_before _ _ _ _ _ (while_read c.args.budget c.in_ok-lower.lower (below c.args.budget) c.args.self.now.names c.args.start c.in_ok-lower.ensures.fits
-    c.in_ok-lower.ensures.lower _ _ _ _ _ (seen c.in_ok-x.x.tree) c.advance.ensures.names c.advance.ensures.rest c.in_ok-x.ensures.reading c.in_ok-x.ensures.names)
-    c.in_ok-s.ensures.reading ∙ ap (λ x. found x c.statement.new.self.rest.now) (sym c.in_ok-part.ensures.tree)
+pub for_parts-returns-in_err-first : goal.for_parts-returns-in_err-first
+for_parts-returns-in_err-first t c = gives_stop (λ s. s.part) SaysFor _ _ _ _ _ _ _ c.in_err-first.field-0.0 c.from_residual.ensures (
+    stops_before _ _ _ _ c.in_err-first.field-0.0 refl c.in_err-first.ensures)
 
--- src/statement.rt:264:5
-pub while_statement-returns-clause-names : goal.while_statement-returns-clause-names
-while_statement-returns-clause-names t c =
-    names_two _ _ _ kind.While [] c.args.start _ _ _ refl c.in_ok-part.ensures.tree
-    (c.in_ok-x.ensures.names ∙ ap (λ (n : Names). after n (seen c.in_ok-x.x.tree)) c.advance.ensures.names) c.in_ok-s.ensures.names
+pub for_parts-returns-in_err-condition : goal.for_parts-returns-in_err-condition
+for_parts-returns-in_err-condition t c =
+    let f = c.in_ok-first.ensures in
+    gives_stop (λ s. s.part) SaysFor _ _ _ _ _ _ _ c.in_err-condition.field-0.0 c.from_residual-in_err-condition.ensures (
+    stops_before _ _ _ _ c.in_err-condition.field-0.0 (parts_second c.args.lower c.args.start c.args.self.now c.for_first.new.self f.tree f.found_is f.read.names_are) c.in_err-condition.ensures)
 
--- src/statement.rt:264:5
-pub while_statement-returns-clause-shorter : goal.while_statement-returns-clause-shorter
-while_statement-returns-clause-shorter t c =
-    let a = behind_one_shorter c.args.self.now.rest.now in let b = ap length c.advance.ensures.rest in omega
-    (arith, a, b, c.in_ok-x.ensures.shorter, c.in_ok-s.ensures.shorter)
+pub for_parts-returns-in_err-step : goal.for_parts-returns-in_err-step
+for_parts-returns-in_err-step t c =
+    let f = c.in_ok-first.ensures in
+    let x = c.in_ok-condition.ensures in
+    gives_stop (λ s. s.part) SaysFor _ _ _ _ _ _ _ c.in_err-step.field-0.0 c.from_residual-in_err-step.ensures (
+    stops_before _ _ _ _ c.in_err-step.field-0.0 (parts_third c.args.lower c.args.start c.args.self.now c.for_first.new.self f.tree f.found_is f.read.names_are c.optional_before.new.self x.tree x.found_is x.read.names_are) c.in_err-step.ensures)
+
+pub for_parts-returns-in_err-part : goal.for_parts-returns-in_err-part
+for_parts-returns-in_err-part t c =
+    let f = c.in_ok-first.ensures in
+    let x = c.in_ok-condition.ensures in
+    let y = c.in_ok-step.ensures in
+    gives_stop (λ s. s.part) SaysFor _ _ _ _ _ _ _ c.in_err-part.field-0.0 c.from_residual-in_err-part.ensures (
+    stops_before _ _ _ _ c.in_err-part.field-0.0 (parts_body c.args.lower c.args.start c.args.self.now c.for_first.new.self f.tree f.found_is f.read.names_are c.optional_before.new.self x.tree x.found_is x.read.names_are
+    c.optional_before-2.new.self y.tree y.found_is y.read.names_are)
+    c.in_err-part.ensures)
+
+pub for_parts-returns-in_err-part-2 : goal.for_parts-returns-in_err-part-2
+for_parts-returns-in_err-part-2 t c =
+    let f = c.in_ok-first.ensures in
+    let x = c.in_ok-condition.ensures in
+    let y = c.in_ok-step.ensures in
+    let s = c.in_ok-part.ensures in
+    gives_stop (λ s. s.part) SaysFor _ _ _ _ _ _ _ c.in_err-part-2.field-0.0 c.from_residual-in_err-part-2.ensures (
+    memory_stop _ _ c.in_err-part-2.field-0.0 (
+    c.in_err-part-2.ensures.tree f.tree x.tree y.tree s.tree (stack_of c.args.self.now.trees) _ _ _ f.read.pushed x.read.pushed y.read.pushed s.read.pushed))
+
+pub for_parts-returns : goal.for_parts-returns
+for_parts-returns t c =
+    let f = c.in_ok-first.ensures in
+    let x = c.in_ok-condition.ensures in
+    let y = c.in_ok-step.ensures in
+    let s = c.in_ok-part.ensures in
+    let names = c.args.self.now.names in
+    let node = plain_node kind.For c.args.start (f.tree then three x.tree y.tree s.tree) in
+    let low : height node ≤ suc c.args.lower =
+    let h = f.read.pushed.height_is in let i = x.read.pushed.height_is in let j = y.read.pushed.height_is in let k = s.read.pushed.height_is in
+    let l = f.low in let m = x.low in let n = y.low in let o = s.low in omega (arith, h, i, j, k, l, m, n, o) in
+    let fewer : length c.statement.new.self.rest.now < length c.args.self.now.rest.now =
+    let a = f.shorter in let b = x.shorter in let d = y.shorter in let e = s.shorter in omega (arith, a, b, d, e) in
+    made (λ t. SaysFor t (record { part = c.in_ok-part-2.part; ends_open = c.in_ok-part.field-0.ends_open })) _ (λ t. add names (entries_behind false t.kids)) node (stack_of c.args.self.now.trees)
+    (suc c.args.lower) (length c.args.self.now.rest.now) _ (Ok c.in_ok-part-2.part)
+    (c.in_ok-part-2.ensures.tree f.tree x.tree y.tree s.tree (stack_of c.args.self.now.trees) _ _ _ f.read.pushed x.read.pushed y.read.pushed s.read.pushed)
+    (parts_body c.args.lower c.args.start c.args.self.now c.for_first.new.self f.tree f.found_is f.read.names_are c.optional_before.new.self x.tree x.found_is x.read.names_are
+    c.optional_before-2.new.self y.tree y.found_is y.read.names_are
+    ∙ found_then _ _ s.tree _ s.found_is)
+    (names_parts names c.for_first.new.self.names c.optional_before.new.self.names c.optional_before-2.new.self.names c.statement.new.self.names f.tree x.tree y.tree s.tree
+    f.read.names_are x.read.names_are y.read.names_are s.read.names_are)
+    (record { kind_is = refl; open_is = s.said }) low fewer
+
+-- ---- by the first token
+
+pub keyword-returns-then-eq : goal.keyword-returns-then-eq
+keyword-returns-then-eq t c = gives_same (λ s. s.part) IsStatement _ _ _ _ _ _ _ _
+    (keyword_if c.args.budget (below c.args.budget) c.args.text.now c.args.start c.args.self.now.names c.args.self.now.rest.now (sym c.eq.ensures ∙ c.if-eq.true)) c.if_statement.ensures
+
+pub keyword-returns-then-eq-2 : goal.keyword-returns-then-eq-2
+keyword-returns-then-eq-2 t c = gives_same (λ s. s.part) IsStatement _ _ _ _ _ _ _ _
+    (keyword_while c.args.budget (below c.args.budget) c.args.text.now c.args.start c.args.self.now.names c.args.self.now.rest.now (sym c.eq.ensures ∙ c.if-eq.false) (sym c.eq-2.ensures ∙ c.if-eq-2.true)) c.while_statement.ensures
+
+pub keyword-returns-then-eq-3 : goal.keyword-returns-then-eq-3
+keyword-returns-then-eq-3 t c = gives_same (λ s. s.part) IsStatement _ _ _ _ _ _ _ _
+    (keyword_do c.args.budget (below c.args.budget) c.args.text.now c.args.start c.args.self.now.names c.args.self.now.rest.now (sym c.eq.ensures ∙ c.if-eq.false) (sym c.eq-2.ensures ∙ c.if-eq-2.false) (sym c.eq-3.ensures ∙ c.if-eq-3.true)) c.do_statement.ensures
+
+pub keyword-returns-then-eq-4 : goal.keyword-returns-then-eq-4
+keyword-returns-then-eq-4 t c = gives_same (λ s. s.part) IsStatement _ _ _ _ _ _ _ _
+    (keyword_for c.args.budget (below c.args.budget) c.args.text.now c.args.start c.args.self.now.names c.args.self.now.rest.now (sym c.eq.ensures ∙ c.if-eq.false) (sym c.eq-2.ensures ∙ c.if-eq-2.false) (sym c.eq-3.ensures ∙ c.if-eq-3.false) (sym c.eq-4.ensures ∙ c.if-eq-4.true)) c.for_statement.ensures
+
+pub keyword-returns-then-eq-5 : goal.keyword-returns-then-eq-5
+keyword-returns-then-eq-5 t c = gives_same (λ s. s.part) IsStatement _ _ _ _ _ _ _ _
+    (keyword_return c.args.budget (below c.args.budget) c.args.text.now c.args.start c.args.self.now.names c.args.self.now.rest.now (sym c.eq.ensures ∙ c.if-eq.false) (sym c.eq-2.ensures ∙ c.if-eq-2.false) (sym c.eq-3.ensures ∙ c.if-eq-3.false) (sym c.eq-4.ensures ∙ c.if-eq-4.false) (sym c.eq-5.ensures ∙ c.if-eq-5.true)) c.return_statement.ensures
+
+pub keyword-returns-then-eq-6 : goal.keyword-returns-then-eq-6
+keyword-returns-then-eq-6 t c = gives_same (λ s. s.part) IsStatement _ _ _ _ _ _ _ _
+    (keyword_break c.args.budget (below c.args.budget) c.args.text.now c.args.start c.args.self.now.names c.args.self.now.rest.now (sym c.eq.ensures ∙ c.if-eq.false) (sym c.eq-2.ensures ∙ c.if-eq-2.false) (sym c.eq-3.ensures ∙ c.if-eq-3.false) (sym c.eq-4.ensures ∙ c.if-eq-4.false) (sym c.eq-5.ensures ∙ c.if-eq-5.false) (sym c.eq-6.ensures ∙ c.if-eq-6.true)) c.jump.ensures
+
+pub keyword-returns-then-eq-7 : goal.keyword-returns-then-eq-7
+keyword-returns-then-eq-7 t c = gives_same (λ s. s.part) IsStatement _ _ _ _ _ _ _ _
+    (keyword_continue c.args.budget (below c.args.budget) c.args.text.now c.args.start c.args.self.now.names c.args.self.now.rest.now (sym c.eq.ensures ∙ c.if-eq.false) (sym c.eq-2.ensures ∙ c.if-eq-2.false) (sym c.eq-3.ensures ∙ c.if-eq-3.false) (sym c.eq-4.ensures ∙ c.if-eq-4.false) (sym c.eq-5.ensures ∙ c.if-eq-5.false) (sym c.eq-6.ensures ∙ c.if-eq-6.false) (sym c.eq-7.ensures ∙ c.if-eq-7.true)) c.jump-then-eq-7.ensures
+
+pub keyword-returns : goal.keyword-returns
+keyword-returns t c = gives_same (λ s. s.part) IsStatement _ _ _ _ _ _ _ _
+    (keyword_none c.args.budget (below c.args.budget) c.args.text.now c.args.start c.args.self.now.names c.args.self.now.rest.now (sym c.eq.ensures ∙ c.if-eq.false) (sym c.eq-2.ensures ∙ c.if-eq-2.false) (sym c.eq-3.ensures ∙ c.if-eq-3.false) (sym c.eq-4.ensures ∙ c.if-eq-4.false) (sym c.eq-5.ensures ∙ c.if-eq-5.false) (sym c.eq-6.ensures ∙ c.if-eq-6.false) (sym c.eq-7.ensures ∙ c.if-eq-7.false)) c.expression_statement.ensures
+
+pub statement-returns-in_default : goal.statement-returns-in_default
+statement-returns-in_default t c = gives_same (λ s. s.part) IsStatement _ _ _ _ _ _ _ _
+    (statement_nothing c.args.budget (below c.args.budget) c.args.self.now.names c.args.self.now.rest.now c.in_default.ensures.none) c.expression_statement.ensures
+
+pub statement-returns-then-at_mark : goal.statement-returns-then-at_mark
+statement-returns-then-at_mark t c = gives_same (λ s. s.part) IsStatement _ _ _ _ _ _ _ _
+    (statement_brace c.args.budget (below c.args.budget) c.args.self.now.names c.args.self.now.rest.now (sym c.at_mark.ensures ∙ c.if-at_mark.true)) c.block.ensures
+
+pub statement-returns-then-at_mark-2 : goal.statement-returns-then-at_mark-2
+statement-returns-then-at_mark-2 t c = gives_same (λ s. s.part) IsStatement _ _ _ _ _ _ _ _
+    (statement_semicolon c.args.budget (below c.args.budget) c.args.self.now.names c.args.self.now.rest.now c.in-Some.token.now c.in-Some.ensures.some
+    (sym c.at_mark-2.ensures ∙ c.if-at_mark-2.true)) c.empty_statement.ensures
+
+pub statement-returns-in-Word : goal.statement-returns-in-Word
+statement-returns-in-Word t c = gives_same (λ s. s.part) IsStatement _ _ _ _ _ _ _ _
+    (statement_word c.args.budget (below c.args.budget) c.args.self.now.names c.args.self.now.rest.now c.in-Some.token.now c.in-Some.ensures.some c.as_slice.result.now
+    (c.in-Word.is ∙ ap token.Word (sym c.as_slice.ensures))) c.keyword.ensures
+
+pub statement-returns-in_default-kind : goal.statement-returns-in_default-kind
+statement-returns-in_default-kind t c = gives_same (λ s. s.part) IsStatement _ _ _ _ _ _ _ _
+    (statement_other c.args.budget (below c.args.budget) c.args.self.now.names c.args.self.now.rest.now c.in-Some.token.now c.in-Some.ensures.some
+    (sym c.at_mark.ensures ∙ c.if-at_mark.false) (sym c.at_mark-2.ensures ∙ c.if-at_mark-2.false) c.in_default-kind.not-Word) c.expression_statement-in_default-kind.ensures

@@ -1,61 +1,93 @@
--- A function or a declaration of the unit is read as the grammar reads it.
-use Rattle.c_types.specs.Trees.{seen}
+-- A function or a declaration of the unit.
+use Rattle.std.proofs.Common.{length, sym, ap, ◌∙◌, arith, refl, ◌≤◌}
+use Rattle.c_syntax.specs.Tables.{stack_of}
 use Rattle.c_grammar.specs.Scopes.{Names, after}
 use Rattle.c_grammar.specs.Reading.{below}
-use Rattle.c_parser.specs.Gives.{Gives}
-use Rattle.std.proofs.Common.{sym, ap, ◌∙◌, subst}
-use Rattle.c_parser.proofs.Stopping.{gives_stop, stops_before, found_before}
-use Rattle.c_parser.proofs.NamesBehind.{names_specs_alone}
-use Rattle.c_parser.proofs.DeclarationReadings.{some_budget, specs_kind, external_declarator, function_here, declaration_here}
+use Rattle.c_parser.specs.Gives.{itself, nothing_more, IsDeclared}
+use Rattle.c_parser.proofs.Made.{gives_same}
+use Rattle.c_parser.proofs.Stopping.{gives_stop, stops_before, found_then}
+use Rattle.c_parser.proofs.Tokens.{behind_one_shorter}
+use Rattle.c_parser.proofs.Spans.{gives_within, within_next, within_some, some_height}
+use Rattle.c_parser.proofs.DeclarationLaws.{external_inside, external_alone, external_declarator, function_here, declaration_here, alone_made}
 use Rattle.c_parser.proofs.parser.Parser.external.Goals as goal
 
--- src/declaration.rt:45:13
-pub returns-then-at_mark-clause-names : goal.returns-then-at_mark-clause-names
-returns-then-at_mark-clause-names c =
-    c.advance.ensures.names ∙ names_specs_alone _ _ c.in_ok-specs.specs.part.start _ (seen c.in_ok-specs.specs.part.tree)
-    (specs_kind c.next_lower.result (below c.next_lower.result) _ _ _ (seen c.in_ok-specs.specs.part.tree) c.in_ok-specs.ensures.reading) c.in_ok-above.ensures.tree
-    c.in_ok-specs.ensures.names
+pub returns-in_err-specs : goal.returns-in_err-specs
+returns-in_err-specs c =
+    let next = c.next_lower.ensures in
+    gives_stop itself nothing_more _ _ _ _ _ _ _ c.in_err-specs.field-0.0 c.from_residual.ensures (
+    stops_before _ _ _ _ c.in_err-specs.field-0.0 (external_inside c.args.budget c.next_lower.result c.args.self.now.names c.args.self.now.rest.now next.none next.lower) c.in_err-specs.ensures)
 
--- src/declaration.rt:47:17
-pub returns-in_err-x-clause-reading : goal.returns-in_err-x-clause-reading
-returns-in_err-x-clause-reading c =
-    gives_stop _ _ _ c.in_err-x.field-0.0 c.from_residual-in_err-x.ensures
-    (stops_before _ _ _ _ c.in_err-x.field-0.0 (external_declarator c.args.budget c.next_lower.result c.args.self.now.names c.args.self.now.rest.now
-    c.next_lower.ensures.none c.next_lower.ensures.lower c.next_lower-2.result c.specs.new.self.names c.specs.new.self.rest.now
-    (seen c.in_ok-specs.specs.part.tree)
-    (c.next_lower-2.ensures.lower (some_budget c.args.budget c.next_lower.result c.in_ok-specs.specs.part.height (seen c.in_ok-specs.specs.part.tree)
-    c.next_lower.ensures.none c.in_ok-specs.specs.part.is_height c.in_ok-specs.ensures.height)) c.in_ok-specs.ensures.reading c.in_ok-specs.ensures.names
-    (sym c.at_mark.ensures ∙ c.if-at_mark.false)) c.in_err-x.ensures.reading)
+pub returns-then-at_mark : goal.returns-then-at_mark
+returns-then-at_mark c =
+    let d = c.args.budget in
+    let next = c.next_lower.ensures in
+    let given = c.in_ok-specs.ensures in
+    let fewer : length c.advance.new.self.rest.now ≤ length c.specs.new.self.rest.now =
+    let a = behind_one_shorter c.specs.new.self.rest.now in let b = ap length c.advance.ensures.rest in omega (arith, a, b) in
+    alone_made _ _ d c.next_lower.result next.none next.less c.args.self.now c.specs.new.self c.advance.new.self _ c.in_ok-specs.specs c.above.result given
+    c.advance.ensures.kept c.advance.ensures.rest refl refl fewer c.above.ensures.tree
+    (external_inside d c.next_lower.result c.args.self.now.names c.args.self.now.rest.now next.none next.lower ∙ found_then _ _ given.tree _ given.found_is
+    ∙ external_alone d (below d) c.args.self.now.names given.tree c.specs.new.self.rest.now (sym c.at_mark.ensures ∙ c.if-at_mark.true))
 
--- src/declaration.rt:49:13
-pub returns-then-at_mark-2-clause-reading : goal.returns-then-at_mark-2-clause-reading
-returns-then-at_mark-2-clause-reading c =
-    subst (λ x. Gives x c.function.new.self.rest.now c.function.result)
-    (sym (found_before _ _ _ (seen c.in_ok-x.x.part.tree) _ (external_declarator c.args.budget c.next_lower.result c.args.self.now.names c.args.self.now.rest.now
-    c.next_lower.ensures.none c.next_lower.ensures.lower c.next_lower-2.result c.specs.new.self.names c.specs.new.self.rest.now
-    (seen c.in_ok-specs.specs.part.tree)
-    (c.next_lower-2.ensures.lower (some_budget c.args.budget c.next_lower.result c.in_ok-specs.specs.part.height (seen c.in_ok-specs.specs.part.tree)
-    c.next_lower.ensures.none c.in_ok-specs.specs.part.is_height c.in_ok-specs.ensures.height)) c.in_ok-specs.ensures.reading c.in_ok-specs.ensures.names
-    (sym c.at_mark.ensures ∙ c.if-at_mark.false)) c.in_ok-x.ensures.reading ∙ function_here c.args.budget (below c.args.budget) c.args.self.now.names
-    (seen c.in_ok-specs.specs.part.tree) (seen c.in_ok-x.x.part.tree) c.declared.new.self.rest.now (sym c.at_mark-2.ensures ∙ c.if-at_mark-2.true)))
-    (c.function.ensures.reading c.args.self.now.names (c.in_ok-x.ensures.names ∙ ap (λ (n : Names). after n (seen c.in_ok-x.x.part.tree))
-    c.in_ok-specs.ensures.names))
+pub returns-in_err-declarator : goal.returns-in_err-declarator
+returns-in_err-declarator c =
+    let d = c.args.budget in
+    let next = c.next_lower.ensures in
+    let given = c.in_ok-specs.ensures in
+    let part = c.in_ok-specs.specs.part in
+    let within = within_next d c.next_lower.result part.height next.none next.less (some_height _ given.tree _ _ part given.read) given.low in
+    gives_stop itself nothing_more _ _ _ _ _ _ _ c.in_err-declarator.field-0.0 c.from_residual-in_err-declarator.ensures (
+    stops_before _ _ _ _ c.in_err-declarator.field-0.0
+    (external_inside d c.next_lower.result c.args.self.now.names c.args.self.now.rest.now next.none next.lower ∙ found_then _ _ given.tree _ given.found_is
+    ∙ external_declarator d c.next_lower-2.result (c.next_lower-2.ensures.lower (within_some part.height d within)) c.args.self.now.names c.specs.new.self.names given.tree c.specs.new.self.rest.now
+    given.read.names_are (sym c.at_mark.ensures ∙ c.if-at_mark.false)) c.in_err-declarator.ensures)
 
--- src/declaration.rt:22:5
-pub returns-clause-reading : goal.returns-clause-reading
-returns-clause-reading c =
-    subst (λ x. Gives x c.declaration_from.new.self.rest.now c.declaration_from.result)
-    (sym (found_before _ _ _ (seen c.in_ok-x.x.part.tree) _ (external_declarator c.args.budget c.next_lower.result c.args.self.now.names c.args.self.now.rest.now
-    c.next_lower.ensures.none c.next_lower.ensures.lower c.next_lower-2.result c.specs.new.self.names c.specs.new.self.rest.now
-    (seen c.in_ok-specs.specs.part.tree)
-    (c.next_lower-2.ensures.lower (some_budget c.args.budget c.next_lower.result c.in_ok-specs.specs.part.height (seen c.in_ok-specs.specs.part.tree)
-    c.next_lower.ensures.none c.in_ok-specs.specs.part.is_height c.in_ok-specs.ensures.height)) c.in_ok-specs.ensures.reading c.in_ok-specs.ensures.names
-    (sym c.at_mark.ensures ∙ c.if-at_mark.false)) c.in_ok-x.ensures.reading ∙ declaration_here c.args.budget (below c.args.budget) c.args.self.now.names
-    (seen c.in_ok-specs.specs.part.tree) (seen c.in_ok-x.x.part.tree) c.declared.new.self.rest.now (sym c.at_mark-2.ensures ∙ c.if-at_mark-2.false)))
-    (c.declaration_from.ensures.reading c.args.self.now.names (c.in_ok-x.ensures.names ∙ ap (λ (n : Names). after n (seen c.in_ok-x.x.part.tree))
-    c.in_ok-specs.ensures.names))
+pub returns-then-at_mark-2 : goal.returns-then-at_mark-2
+returns-then-at_mark-2 c =
+    let d = c.args.budget in
+    let names = c.args.self.now.names in
+    let next = c.next_lower.ensures in
+    let specs = c.in_ok-specs.specs in
+    let declarator = c.in_ok-declarator.declarator in
+    let given = c.in_ok-specs.ensures in
+    let s = given.tree in
+    let more = c.in_ok-declarator.ensures in
+    let x = more.tree in
+    let within = within_next d c.next_lower.result specs.part.height next.none next.less (some_height _ s _ _ specs.part given.read) given.low in
+    let declared : IsDeclared (after (after names s)) x (stack_of c.specs.new.self.trees) c.declared.new.self declarator = record {
+      read = record { names_are = more.read.names_are ∙ ap (λ (n : Names). after n x) given.read.names_are; pushed = more.read.pushed };
+      said = more.said;
+    } in
+    gives_within itself nothing_more _ _ _ d d (length c.declared.new.self.rest.now) (length c.args.self.now.rest.now) _ _ (omega arith)
+    (let a = given.shorter in let b = more.shorter in omega (arith, a, b)) (
+    gives_same itself nothing_more _ _ _ _ _ _ _ _
+    (external_inside d c.next_lower.result names c.args.self.now.rest.now next.none next.lower ∙ found_then _ _ s _ given.found_is
+    ∙ external_declarator d c.next_lower-2.result (c.next_lower-2.ensures.lower (within_some specs.part.height d within)) names c.specs.new.self.names s c.specs.new.self.rest.now
+    given.read.names_are (sym c.at_mark.ensures ∙ c.if-at_mark.false) ∙ found_then _ _ x _ more.found_is
+    ∙ function_here d (below d) names s x c.declared.new.self.rest.now (sym c.at_mark-2.ensures ∙ c.if-at_mark-2.true))
+    (c.function.ensures names s x (stack_of c.args.self.now.trees) (stack_of c.specs.new.self.trees) given.read.pushed given.said declared))
 
--- src/declaration.rt:52:9
-pub declaration_from-requires-clause-specs : goal.declaration_from-requires-clause-specs
-declaration_from-requires-clause-specs c = specs_kind c.next_lower.result (below c.next_lower.result) _ _ _ (seen c.in_ok-specs.specs.part.tree)
-    c.in_ok-specs.ensures.reading
+pub returns : goal.returns
+returns c =
+    let d = c.args.budget in
+    let names = c.args.self.now.names in
+    let next = c.next_lower.ensures in
+    let specs = c.in_ok-specs.specs in
+    let declarator = c.in_ok-declarator.declarator in
+    let given = c.in_ok-specs.ensures in
+    let s = given.tree in
+    let more = c.in_ok-declarator.ensures in
+    let x = more.tree in
+    let within = within_next d c.next_lower.result specs.part.height next.none next.less (some_height _ s _ _ specs.part given.read) given.low in
+    let declared : IsDeclared (after (after names s)) x (stack_of c.specs.new.self.trees) c.declared.new.self declarator = record {
+      read = record { names_are = more.read.names_are ∙ ap (λ (n : Names). after n x) given.read.names_are; pushed = more.read.pushed };
+      said = more.said;
+    } in
+    gives_within itself nothing_more _ _ _ d d (length c.declared.new.self.rest.now) (length c.args.self.now.rest.now) _ _ (omega arith)
+    (let a = given.shorter in let b = more.shorter in omega (arith, a, b)) (
+    gives_same itself nothing_more _ _ _ _ _ _ _ _
+    (external_inside d c.next_lower.result names c.args.self.now.rest.now next.none next.lower ∙ found_then _ _ s _ given.found_is
+    ∙ external_declarator d c.next_lower-2.result (c.next_lower-2.ensures.lower (within_some specs.part.height d within)) names c.specs.new.self.names s c.specs.new.self.rest.now
+    given.read.names_are (sym c.at_mark.ensures ∙ c.if-at_mark.false) ∙ found_then _ _ x _ more.found_is
+    ∙ declaration_here d (below d) names s x c.declared.new.self.rest.now (sym c.at_mark-2.ensures ∙ c.if-at_mark-2.false))
+    (c.declaration_from.ensures names s x (stack_of c.args.self.now.trees) (stack_of c.specs.new.self.trees) given.read.pushed given.said declared))

@@ -1,84 +1,52 @@
--- The same from behind the first declarator.
-use Rattle.std.proofs.Common.{◌∷◌, ◌++◌, [], length, map, sym, ap, ◌∙◌, subst, arith}
-use Rattle.c_types.specs.Trees.{one, seen, forest_of, Tree}
-use Rattle.c_grammar.specs.Scopes.{Names, add, entries_behind}
-use Rattle.c_grammar.specs.Reading as reading
-use Rattle.c_grammar.specs.Reading.{below}
-use Rattle.c_parser.specs.Gives.{Stops}
-use Rattle.c_parser.proofs.Stopping.{gives_all_stop}
-use Rattle.c_parser.proofs.CommaRows.{listed_next, listed_stops, listed_end}
-use Rattle.c_parser.proofs.Tokens.{behind_one_shorter}
-use Rattle.c_parser.proofs.NamesBehind.{names_init_more}
-use Rattle.c_parser.proofs.DeclarationReadings.{behind_first}
+-- Initialized declarators from behind the first declarator.
+use Rattle.std.proofs.Common.{suc, length, sym, arith, rules, ◌∙◌}
+use Rattle.std.specs.Prelude.{⊤}
+use Rattle.c_grammar.specs.Scopes.{add, entries_behind}
+use Rattle.c_grammar.specs.Reading.{below, init_declarator_in}
+use Rattle.c_parser.specs.Gives.{itself_high, no_more}
+use Rattle.c_parser.proofs.Stopping.{gives_row_stop}
+use Rattle.c_parser.proofs.CommaRows.{listing_stops, listing_next, listing_end}
+use Rattle.c_parser.proofs.InitializerLaws.{after_initialized, follows_initialized, behind_stops, listing_behind}
 use Rattle.c_parser.proofs.parser.Parser.init_declarators_from.Goals as goal
 
--- src/declaration.rt:123:18
-pub init_declarator_from-requires : goal.init_declarator_from-requires
-init_declarator_from-requires c =
-    c.requires
+pub returns-in_err-height-clause-read : goal.returns-in_err-height-clause-read
+returns-in_err-height-clause-read c = λ names x under declared.
+    gives_row_stop itself_high no_more _ _ _ _ _ _ _ c.in_err-height.field-0.0 c.from_residual.ensures (
+    behind_stops c.args.budget (below c.args.budget) c.args.is_typedef names x c.args.self.now.rest.now _ c.in_err-height.field-0.0 (c.in_err-height.ensures.read names x under declared))
 
--- src/declaration.rt:124:9
 pub loop-self-init : goal.loop-self-init
-loop-self-init c =
-    record {
-      reading = λ names e. behind_first c.args.budget (below c.args.budget) names c.args.is_typedef (seen c.args.x.part.tree) c.init_declarator_from.new.self.names
-          c.args.self.now.rest.now c.init_declarator_from.new.self.rest.now c.in_ok-init_declarator_from.field-0.tree _
-          (c.in_ok-init_declarator_from.ensures.reading names e) (c.in_ok-init_declarator_from.ensures.names names e)
-          (c.in_ok-push.ensures.trees ∙ ap (λ xs. xs ++ (c.in_ok-init_declarator_from.field-0.tree ∷ [])) c.new-row.ensures.trees);
-      names = λ names e. c.in_ok-init_declarator_from.ensures.names names e ∙ ap (λ xs. add names (entries_behind c.args.is_typedef (forest_of (map seen xs))))
-          (sym (c.in_ok-push.ensures.trees ∙ ap (λ xs. xs ++ (c.in_ok-init_declarator_from.field-0.tree ∷ [])) c.new-row.ensures.trees));
-      height = omega (arith, c.in_ok-push.ensures.height, c.new-row.ensures.height, c.in_ok-init_declarator_from.ensures.height);
-      shorter = c.in_ok-init_declarator_from.ensures.shorter;
-    }
+loop-self-init c = record {
+  low = c.in_ok-height.ensures.low;
+  read = λ names x under declared.
+      listing_behind c.args.budget (below c.args.budget) c.args.is_typedef names x c.args.self.now.rest.now _ under c.args.budget (suc (length c.args.self.now.rest.now)) c.init_declarator_from.new.self
+      c.in_ok-height.field-0 (c.in_ok-height.ensures.read names x under declared);
+}
 
--- src/declaration.rt:126:22
-pub returns-in_err-init_declarator-clause-reading :
-    goal.returns-in_err-init_declarator-clause-reading
-returns-in_err-init_declarator-clause-reading c =
-    λ names e. gives_all_stop _ _ _ c.in_err-init_declarator.field-0.0 c.from_residual-in_err-init_declarator.ensures
-    (listed_stops c.args.budget (below c.args.budget) (reading.init_declarator_in c.args.budget (below c.args.budget) c.args.is_typedef)
-    (λ (ns : Names) (t : Tree). add ns (entries_behind c.args.is_typedef (one t))) _ _ _ _ _ _ c.in_err-init_declarator.field-0.0
-    (c.loop-self.invariant.reading names e) (sym c.at_mark.ensures ∙ c.loop-self-test.true) c.advance.ensures.rest
-    (subst (λ (n : Names). Stops (reading.init_declarator_in c.args.budget (below c.args.budget) c.args.is_typedef n c.advance.new.self.rest.now)
-    c.init_declarator.new.self.rest.now c.in_err-init_declarator.field-0.0) c.advance.ensures.names c.in_err-init_declarator.ensures.reading))
+pub returns-in_err-init_declarator-clause-read : goal.returns-in_err-init_declarator-clause-read
+returns-in_err-init_declarator-clause-read c = λ names x under declared.
+    let d = c.args.budget in
+    let flag = c.args.is_typedef in
+    gives_row_stop itself_high no_more _ _ _ _ _ _ _ c.in_err-init_declarator.field-0.0 c.from_residual-in_err-init_declarator.ensures (
+    listing_stops d (below d) (init_declarator_in d (below d) flag) (after_initialized flag) _ names (λ ts. add names (entries_behind flag ts)) under d
+    (suc (length c.args.self.now.rest.now)) (follows_initialized flag names) c.loop-self.self c.loop-self.height (c.loop-self.invariant.read names x under declared)
+    (sym c.at_mark.ensures ∙ c.loop-self-test.true) c.advance.new.self c.advance.ensures.kept c.advance.ensures.rest _ c.in_err-init_declarator.field-0.0 c.in_err-init_declarator.ensures)
 
--- src/declaration.rt:124:9
 pub loop-self-preserved : goal.loop-self-preserved
-loop-self-preserved c =
-    record {
-      reading = λ names e. listed_next c.args.budget (below c.args.budget) (reading.init_declarator_in c.args.budget (below c.args.budget) c.args.is_typedef)
-          (λ (ns : Names) (t : Tree). add ns (entries_behind c.args.is_typedef (one t))) _ _ _ _ _ _ _ _ _ (c.loop-self.invariant.reading names e)
-          (sym c.at_mark.ensures ∙ c.loop-self-test.true) c.advance.ensures.rest
-          (ap (λ (n : Names). reading.init_declarator_in c.args.budget (below c.args.budget) c.args.is_typedef n c.advance.new.self.rest.now)
-          (sym c.advance.ensures.names) ∙ c.in_ok-init_declarator.ensures.reading)
-          (c.in_ok-init_declarator.ensures.names ∙ ap (λ (n : Names). add n (entries_behind c.args.is_typedef (one (seen c.in_ok-init_declarator.field-0.tree))))
-          c.advance.ensures.names) (omega (arith, c.in_ok-init_declarator.ensures.shorter)) c.in_ok-push-2.ensures.trees;
-      names = λ names e. names_init_more _ _ _ c.args.is_typedef c.loop-self.row.trees.items _ c.in_ok-init_declarator.field-0.tree (c.loop-self.invariant.names names e)
-          (c.in_ok-init_declarator.ensures.names ∙ ap (λ (n : Names). add n (entries_behind c.args.is_typedef (one (seen c.in_ok-init_declarator.field-0.tree))))
-          c.advance.ensures.names) c.in_ok-push-2.ensures.trees;
-      height = omega (arith, c.in_ok-push-2.ensures.height, c.loop-self.invariant.height, c.in_ok-init_declarator.ensures.height);
-      shorter = let a = behind_one_shorter c.loop-self.self.rest.now in let b = ap length c.advance.ensures.rest in omega
-          (arith, a, b, c.loop-self.invariant.shorter, c.in_ok-init_declarator.ensures.shorter);
-    }
+loop-self-preserved c = record {
+  low = let a = c.loop-self.invariant.low in let b = c.in_ok-init_declarator.ensures.low in let e = c.max-height.ensures in omega (arith, a, b, e);
+  read = λ names x under declared.
+      let d = c.args.budget in
+      let flag = c.args.is_typedef in
+      listing_next d (below d) (init_declarator_in d (below d) flag) (after_initialized flag) _ names (λ ts. add names (entries_behind flag ts)) under d
+      (suc (length c.args.self.now.rest.now)) (follows_initialized flag names) c.loop-self.self c.loop-self.height (c.loop-self.invariant.read names x under declared)
+      (sym c.at_mark.ensures ∙ c.loop-self-test.true) c.advance.new.self c.advance.ensures.kept c.advance.ensures.rest _ c.init_declarator.new.self c.in_ok-init_declarator.field-0
+      c.in_ok-init_declarator.ensures _ (search rules);
+}
 
--- src/declaration.rt:104:5
-pub returns-clause-reading : goal.returns-clause-reading
-returns-clause-reading c =
-    λ names e. listed_end c.args.budget (below c.args.budget) (reading.init_declarator_in c.args.budget (below c.args.budget) c.args.is_typedef)
-    (λ (ns : Names) (t : Tree). add ns (entries_behind c.args.is_typedef (one t))) _ _ _ _ (c.loop-self.invariant.reading names e)
-    (sym c.at_mark.ensures ∙ c.loop-self-test.false)
-
--- src/declaration.rt:104:5
-pub returns-clause-names : goal.returns-clause-names
-returns-clause-names c =
-    c.loop-self.invariant.names
-
--- src/declaration.rt:104:5
-pub returns-clause-height : goal.returns-clause-height
-returns-clause-height c =
-    c.loop-self.invariant.height
-
--- src/declaration.rt:104:5
-pub returns-clause-shorter : goal.returns-clause-shorter
-returns-clause-shorter c =
-    c.loop-self.invariant.shorter
+pub returns-clause-read : goal.returns-clause-read
+returns-clause-read c = λ names x under declared.
+    let d = c.args.budget in
+    let flag = c.args.is_typedef in
+    listing_end d (below d) (init_declarator_in d (below d) flag) (after_initialized flag) _ names (λ ts. add names (entries_behind flag ts)) under d
+    (suc (length c.args.self.now.rest.now)) (follows_initialized flag names) (λ ts. ⊤) c.loop-self.self c.loop-self.height (c.loop-self.invariant.read names x under declared)
+    (sym c.at_mark.ensures ∙ c.loop-self-test.false) tt

@@ -1,4 +1,3 @@
--- A string ahead.
 use Rattle.c_parser.proofs.Tokens.{some_string}
 use Rattle.c_parser.proofs.parser.Parser.string_ahead.Goals as goal
 

@@ -1,0 +1,5 @@
+pub mod TreeLaws
+pub mod TableLaws
+pub mod TextLaws
+pub mod BuilderLaws
+pub mod FirstLaws

@@ -1,8 +1,0 @@
-use Rattle.std.proofs.Common.{ap, sym, ◌∙◌}
-use Rattle.c_types.specs.Trees.{height}
-use Rattle.c_types.proofs.TableLaws.{one_tree}
-use Rattle.c_types.proofs.syntax.Syntax.height.Goals as goal
-
-pub returns : goal.returns
-returns c = λ tree whole.
-    c.self.invariant.highest ∙ ap height (one_tree c.self.invariant.of tree (sym c.self.invariant.whole ∙ c.self.view_is ∙ whole))
