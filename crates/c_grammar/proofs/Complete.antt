@@ -9,7 +9,7 @@ use Rattle.c_grammar.specs.Vocabulary.{level_of, is_assignment}
 use Rattle.c_grammar.specs.Scopes.{Names, opened, after, after_parameter, add, entries_behind}
 use Rattle.c_grammar.specs.Derivation.{Part, Row, ends_open}
 use Rattle.c_grammar.specs.Answers.{Answer, Ahead, mark_ahead, string_ahead, ahead}
-use Rattle.c_grammar.specs.Reading.{named, unnamed, either, begins_with_mark, begins_with_word, begins_specifier, is_named, is_absent_by, primary_by, postfix_in, suffixes, unary_in, cast_in, binary_in, operands, conditional_in, assignment_in, expression_in, commas, specifier_in, specifier_list_in, specifiers_in, declared_in, declared_suffixes, parameter_in, type_name_in, member_in, enumerator_in, initializer_in, init_declarator_in, declaration_in, external_in, body_by, statement_in, optional_expression_in, listed, listed_in_braces, members_in, items_in, externals_in, arguments_in, length_in, below}
+use Rattle.c_grammar.specs.Reading.{named, unnamed, either, begins_with_mark, begins_with_word, begins_specifier, is_named, is_absent_by, primary_by, postfix_in, suffixes, unary_in, cast_in, binary_in, operands, conditional_in, assignment_in, expression_in, commas, specifier_in, specifier_list_in, specifiers_in, declared_in, declared_suffixes, parameter_in, type_name_in, member_in, enumerator_in, initializer_in, init_declarator_in, declaration_in, external_in, body_by, statement_in, label_in, optional_expression_in, listed, listed_in_braces, members_in, items_in, groups_in, externals_in, arguments_in, length_in, below}
 use Rattle.c_grammar.proofs.Budgets.{Finds, Chain}
 
 -- ---- what may stand behind a part
@@ -147,6 +147,7 @@ Complete names Part.abstract_declarator a b t = Is (closes b) → (d : ℕ) → 
 Complete names Part.direct_abstract a b t = (d : ℕ) → DirectAbstractRead names d a b t
 Complete names Part.block a b t = (d : ℕ) → Finds (body_by d (below d) (opened names) a (ahead a)) d (height t) t b
 Complete names Part.statement a b t = Is (ends_statement t b) → (d : ℕ) → Finds (statement_in d (below d) names a) d (height t) t b
+Complete names Part.switch_label a b t = (d : ℕ) → Finds (label_in d (below d) names a) d (height t) t b
 Complete names Part.optional_expression a b t = Is (begins_with_mark Semicolon b || begins_with_mark RightParenthesis b) → (d : ℕ) → Finds (optional_expression_in d (below d) names a) d (height t) t b
 Complete names Part.expression a b t = Is (ends_assignment b) → (d : ℕ) → Chain d (expression_in d (below d) names a) (λ k. commas d (below d) k names) (height t) t b
 Complete names Part.assignment a b t = Is (ends_assignment b) → (d : ℕ) → Finds (assignment_in d (below d) names a) d (height t) t b
@@ -174,6 +175,7 @@ CompleteRow names Row.declarators a b ts = Is (begins_with_mark Semicolon b) →
 CompleteRow names Row.enumerators a b ts = Is (begins_with_mark RightBrace b) → (d : ℕ) → Counted (λ k. listed_in_braces d (below d) (enumerator_in d (below d)) k names a) a d ts b
 CompleteRow names Row.parameters a b ts = Is (begins_with_mark RightParenthesis b) → (d : ℕ) → Counted (λ k. listed d (below d) (parameter_in d (below d)) after_parameter k names a) a d ts b
 CompleteRow names Row.block_items a b ts = Is (begins_with_mark RightBrace b) → (d : ℕ) → Counted (λ k. items_in d (below d) k names a) a d ts b
+CompleteRow names (Row.groups standing) a b ts = Is (begins_with_mark RightBrace b) → (d : ℕ) → Counted (λ k. groups_in d (below d) k standing names a) a d ts b
 CompleteRow names Row.arguments a b ts = Is (begins_with_mark RightParenthesis b) → (d : ℕ) → Finds (arguments_in d (below d) names a) d (forest_height ts) ts b
 CompleteRow names Row.argument_list a b ts = Is (begins_with_mark RightParenthesis b) → (d : ℕ) → Counted (λ k. listed d (below d) (assignment_in d (below d)) after k names a) a d ts b
 CompleteRow names Row.optional_length a b ts = Is (begins_with_mark RightBracket b) → (d : ℕ) → Finds (length_in d (below d) names a) d (forest_height ts) ts b

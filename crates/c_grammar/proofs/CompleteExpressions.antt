@@ -99,7 +99,7 @@ abbrev pub tags : List (List ℕ)
 tags = codes "struct" ∷ codes "enum" ∷ []
 
 abbrev pub statement_words : List (List ℕ)
-statement_words = codes "if" ∷ codes "while" ∷ codes "do" ∷ codes "for" ∷ codes "break" ∷ codes "continue" ∷ codes "return" ∷ []
+statement_words = codes "if" ∷ codes "while" ∷ codes "do" ∷ codes "for" ∷ codes "break" ∷ codes "continue" ∷ codes "return" ∷ codes "switch" ∷ []
 
 -- the test of a word, from the tests that it is made of
 word_begins : (p q r s t : Bool) → p ≡ false → q ≡ false → r ≡ false → s ≡ false → t ≡ false → p || (q || (r || (s || t))) ≡ false

@@ -1,16 +1,16 @@
 -- What derivations of statements say of their reading.
 use Rattle.std.proofs.Common.{◌≡◌, ℕ, suc, Bool, true, false, List, ◌∷◌, length, refl, ap, arith}
 use Rattle.std.specs.Prelude.{max, not, ◌&&◌, codes}
-use Rattle.c_lexer.specs.declared.token.Punct.TheVariants.{LeftParenthesis, RightParenthesis, LeftBrace, RightBrace, Semicolon}
+use Rattle.c_lexer.specs.declared.token.Punct.TheVariants.{LeftParenthesis, RightParenthesis, LeftBrace, RightBrace, Colon, Semicolon}
 use Rattle.c_lexer.specs.declared.token.Token.{Token}
 use Rattle.c_syntax.specs.declared.kind.SynKind.TheVariants as kind
-use Rattle.c_syntax.specs.Trees.{Tree, Forest, none, one, two, three, plain_node, height, forest_height}
+use Rattle.c_syntax.specs.Trees.{Tree, Forest, none, ◌then◌, one, two, three, plain_node, height, forest_height}
 use Rattle.c_grammar.specs.Vocabulary.{Place, mark, word}
 use Rattle.c_grammar.specs.Scopes.{Names, opened, after}
 use Rattle.c_grammar.specs.Derivation as grammar
 use Rattle.c_grammar.specs.Derivation.{Part, Row, Derives, Lists, start, ends_open}
 use Rattle.c_grammar.specs.Answers.{found, and_then, expect, expect_by, expect_word, expect_word_by, ahead, ahead_by}
-use Rattle.c_grammar.specs.Reading.{Reader, read, goal_in, rows_in, statement_in, statement_by, body_by, expression_statement_in, keyword_by, while_in, do_in, if_in, for_in, for_behind, return_in, in_parentheses_then, begins_with_word, begins_with_mark, below}
+use Rattle.c_grammar.specs.Reading.{Reader, read, goal_in, rows_in, statement_in, statement_by, body_by, expression_statement_in, keyword_by, while_in, do_in, if_in, for_in, for_behind, switch_in, label_by, label_in, return_in, in_parentheses_then, begins_with_word, begins_with_mark, below}
 use Rattle.c_grammar.specs.Reading as reading
 use Rattle.c_grammar.proofs.Budgets.{Finds, leads_then, leads_here, leads_height, leads_from}
 use Rattle.c_grammar.proofs.Complete.{Complete, CompleteRow}
@@ -123,6 +123,34 @@ c_do_while names a b c at2 at3 at4 at5 at s x cs cx ends d =
     no_more : (p : Bool) → not (p && false) ≡ true
     no_more true = refl
     no_more false = refl
+
+pub c_switch_of : (names : Names) (a b c : List Token) (at3 at4 at5 at at2 : Place) (x : Tree) (ts : Forest)
+    → Complete names Part.expression a (mark RightParenthesis at3 ∷ mark LeftBrace at4 ∷ b) x
+    → CompleteRow (opened (after names x)) (Row.groups grammar.at_first) b (mark RightBrace at5 ∷ c) ts
+    → Complete names Part.statement (word (codes "switch") at ∷ mark LeftParenthesis at2 ∷ a) c (plain_node kind.Switch at.start (x then ts))
+unfolding statement_in statement_by keyword_by switch_in in_parentheses_then expect expect_by ahead ahead_by goal_in rows_in
+c_switch_of names a b c at3 at4 at5 at at2 x ts cx cts ends d =
+    token_node 2 (max (height x) (max (forest_height ts) 0)) _ rest (λ r. switch_in d r names at rest) _ (omega arith) (omega arith) (omega arith)
+    (λ e. leads_then _ _ e (height x) _ x _ _ (tree_finds reading.expression names a (expression_finds _ _ _ _ cx refl e))
+    (leads_then _ _ e (forest_height ts) 0 ts _ _ (trees_find reading.groups (opened (after names x)) b (cts refl e (suc (length b)) (omega arith))) (leads_here _ e))) d
+  where
+    rest : List Token
+    rest = mark LeftParenthesis at2 ∷ a
+
+pub c_case_label : (names : Names) (a b : List Token) (at2 at : Place) (x : Tree)
+    → Complete names Part.conditional a (mark Colon at2 ∷ b) x
+    → Complete names Part.switch_label (word (codes "case") at ∷ a) b (plain_node kind.Case at.start (one x))
+unfolding label_in label_by expect expect_by ahead ahead_by goal_in
+c_case_label names a b at2 at x cx d =
+    token_node 2 (max (height x) 0) _ a (λ r. and_then (r.tree_of reading.conditional names a) (λ x behind. expect Colon behind (λ end. found (plain_node kind.Case at.start (one x)) end))) _
+    (omega arith) (omega arith) (omega arith)
+    (λ e. leads_then _ _ e (height x) 0 x _ _ (tree_finds reading.conditional names a (cx refl e)) (leads_here _ e)) d
+
+pub c_default_label : (names : Names) (at at2 : Place) (b : List Token)
+    → Complete names Part.switch_label (word (codes "default") at ∷ mark Colon at2 ∷ b) b (plain_node kind.Default at.start none)
+unfolding label_in label_by expect expect_by ahead ahead_by
+c_default_label names at at2 b d =
+    token_node 1 0 _ (mark Colon at2 ∷ b) (λ r. found (plain_node kind.Default at.start none) b) _ (omega arith) (omega arith) (omega arith) (λ e. leads_here _ e) d
 
 pub c_break_of : (names : Names) (at at2 : Place) (b : List Token)
     → Complete names Part.statement (word (codes "break") at ∷ mark Semicolon at2 ∷ b) b (plain_node kind.Break at.start none)

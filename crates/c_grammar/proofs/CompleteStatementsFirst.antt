@@ -14,7 +14,7 @@ use Rattle.c_grammar.specs.Scopes.{Names, is_typedef_name}
 use Rattle.c_grammar.specs.Derivation as grammar
 use Rattle.c_grammar.specs.Derivation.{Part, Row, Derives, Lists}
 use Rattle.c_grammar.specs.Answers.{ahead, ahead_by}
-use Rattle.c_grammar.specs.Reading.{Reader, begins_specifier, begins_specifier_by, begins_with_mark, begins_with_mark_by, begins_with_word, begins_with_word_by, statement_by, keyword_by, expression_statement_in, initializer_by, assignment_in}
+use Rattle.c_grammar.specs.Reading.{Reader, begins_specifier, begins_specifier_by, begins_with_mark, begins_with_mark_by, begins_with_word, begins_with_word_by, begins_label, statement_by, keyword_by, expression_statement_in, initializer_by, assignment_in}
 use Rattle.c_grammar.proofs.Complete.{Is, ends_specs}
 use Rattle.c_grammar.proofs.FirstTokens.{Front, of_specs, of_expression, of_statement, front, kind_front, mark_front, keyword_front, word_front, begins_statement, no_identifier, typedef_specs, keyword_specs}
 
@@ -165,6 +165,7 @@ module _ (d : ℕ) (r : Reader) (names : Names) where
             no_keyword text (codes "return") refl e,
             no_keyword text (codes "break") refl e,
             no_keyword text (codes "continue") refl e,
+            no_keyword text (codes "switch") refl e,
           ) refl
       by (token.Punct LeftBrace) e = absurd (cc e)
       by (token.Punct Semicolon) e = absurd (cc e)
@@ -212,19 +213,25 @@ module _ (names : Names) where
       by (token.Punct Semicolon) no_way = absurd (no_way refl)
       by other no_way = refl
 
-  -- nor the word `else`
-  pub no_else_word : (a : List Token) → (front names a ≡ Front.other → ⊥) → begins_with_word (codes "else") a ≡ false
+  -- nor a word like `else`
+  no_such_word : (word : List ℕ) → kind_front names (token.Word word) ≡ Front.other → (a : List Token) → (front names a ≡ Front.other → ⊥) → begins_with_word word a ≡ false
   unfolding ahead ahead_by
-  no_else_word [] no_way = refl
-  no_else_word (t ∷ rest) no_way = by t.kind no_way
+  no_such_word word f [] no_way = refl
+  no_such_word word f (t ∷ rest) no_way = by t.kind no_way
     where
-      at : (text : List ℕ) → (kind_front names (token.Word text) ≡ Front.other → ⊥) → (p : Bool) → bytes_eq (codes "else") text ≡ p → p ≡ false
-      at text no_way true e = absurd (no_way (subst (λ t. kind_front names (token.Word t) ≡ Front.other) ((bytes_eq-Decides (codes "else") text).0 e) refl))
+      at : (text : List ℕ) → (kind_front names (token.Word text) ≡ Front.other → ⊥) → (p : Bool) → bytes_eq word text ≡ p → p ≡ false
+      at text no_way true e = absurd (no_way (subst (λ t. kind_front names (token.Word t) ≡ Front.other) ((bytes_eq-Decides word text).0 e) f))
       at text no_way false e = refl
 
-      by : (k : TokenKind) → (kind_front names k ≡ Front.other → ⊥) → begins_with_word_by (codes "else") (ahead_by k (record { start = t.start; end = t.end }) rest) ≡ false
-      by (token.Word text) no_way = at text no_way (bytes_eq (codes "else") text) refl
+      by : (k : TokenKind) → (kind_front names k ≡ Front.other → ⊥) → begins_with_word_by word (ahead_by k (record { start = t.start; end = t.end }) rest) ≡ false
+      by (token.Word text) no_way = at text no_way (bytes_eq word text) refl
       by other no_way = refl
+
+  pub no_else_word : (a : List Token) → (front names a ≡ Front.other → ⊥) → begins_with_word (codes "else") a ≡ false
+  no_else_word a no_way = no_such_word (codes "else") refl a no_way
+
+  pub no_label_begins : (a : List Token) → (front names a ≡ Front.other → ⊥) → begins_label a ≡ false
+  no_label_begins a no_way = rw (no_such_word (codes "case") refl a no_way, no_such_word (codes "default") refl a no_way) refl
 
 -- ---- declarators
 

@@ -1,4 +1,4 @@
--- A part has no more tokens behind it than before it, and declarations, statements and externals have fewer.
+-- A part has no more tokens behind it than before it, and declarations, statements, labels and externals have fewer.
 use Rattle.std.proofs.Common.{◌≤◌, ◌<◌, List, length, length-append, ap, arith}
 use Rattle.c_lexer.specs.declared.token.Token.{Token}
 use Rattle.c_syntax.specs.Trees.{Tree, Forest}
@@ -34,7 +34,12 @@ statement_length (grammar.while_do x s) = omega (arith, part_length x, part_leng
 statement_length (grammar.do_while s x) = omega (arith, part_length s, part_length x)
 statement_length (grammar.for_declaration f x y s) = omega (arith, part_length f, part_length x, part_length y, part_length s)
 statement_length (grammar.for_expression f x y s) = omega (arith, part_length f, part_length x, part_length y, part_length s)
+statement_length (grammar.switch_of x ts) = omega (arith, part_length x, row_length ts)
 statement_length grammar.break_of = omega arith
 statement_length grammar.continue_of = omega arith
 statement_length grammar.return_nothing = omega arith
 statement_length (grammar.return_value x) = omega (arith, part_length x)
+
+pub label_length : {names : Names} {a b : List Token} {t : Tree} → Derives names grammar.switch_label a b t → length b < length a
+label_length (grammar.case_label x) = omega (arith, part_length x)
+label_length grammar.default_label = omega arith

@@ -43,6 +43,9 @@ mutual
   complete (rule.do_while t x) = s.c_do_while _ _ _ _ _ _ _ _ _ _ _ (complete t) (complete x)
   complete (rule.for_declaration g x y t) = f.c_for_declaration _ _ _ _ _ _ _ _ _ _ g (complete g) (complete x) (complete y) (complete t)
   complete (rule.for_expression g x y t) = f.c_for_expression _ _ _ _ _ _ _ _ _ _ g (complete g) (complete x) (complete y) (complete t)
+  complete (rule.switch_of x ts) = s.c_switch_of _ _ _ _ _ _ _ _ _ _ _ (complete x) (complete_row ts)
+  complete (rule.case_label x) = s.c_case_label _ _ _ _ _ _ (complete x)
+  complete rule.default_label = s.c_default_label _ _ _ _
   complete rule.break_of = s.c_break_of _ _ _ _
   complete rule.continue_of = s.c_continue_of _ _ _ _
   complete rule.return_nothing = s.c_return_nothing _ _ _ _
@@ -123,6 +126,9 @@ mutual
   complete_row rule.no_items = r.c_no_items _ _
   complete_row (rule.declaration_first t ts) = r.c_declaration_first _ _ t (complete t) (complete_row ts)
   complete_row (rule.statement_first t ts) = r.c_statement_first t ts (complete t) (complete_row ts)
+  complete_row (rule.no_more_groups h) = r.c_no_more_groups _ _ _ h
+  complete_row (rule.label_first t ts) = r.c_label_first _ _ _ t (complete t) (complete_row ts)
+  complete_row (rule.labelled_statement h t ts) = r.c_labelled_statement _ h t ts (complete t) (complete_row ts)
   complete_row rule.no_arguments = r.c_no_arguments _ _
   complete_row (rule.some_arguments ts) = r.c_some_arguments ts (complete_row ts)
   complete_row (rule.last_argument t) = r.c_last_argument _ _ _ _ (complete t)

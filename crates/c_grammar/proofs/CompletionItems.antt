@@ -1,27 +1,28 @@
 -- Where declarations, statements or initializers in a row go too deep, the tokens before the place are completed, where the
 -- next lower budget reads so.
-use Rattle.std.proofs.Common.{ℕ, zero, suc, Bool, false, List, [], ◌∷◌, length, if◌then◌else◌}
-use Rattle.c_lexer.specs.declared.token.Punct.TheVariants.{RightBrace}
+use Rattle.std.proofs.Common.{◌≡◌, ℕ, zero, suc, Bool, false, List, [], ◌∷◌, length, if◌then◌else◌, refl}
+use Rattle.c_lexer.specs.declared.token.Punct.TheVariants.{RightBrace, Semicolon}
 use Rattle.c_lexer.specs.declared.token.Token.{Token}
 use Rattle.c_syntax.specs.Trees.{Tree, Forest, ◌then◌, one}
 use Rattle.c_grammar.specs.Scopes.{Names, add, after, entries_behind}
 use Rattle.c_grammar.specs.Derivation as rule
-use Rattle.c_grammar.specs.Derivation.{Derives, Lists, start}
+use Rattle.c_grammar.specs.Derivation.{Derives, Lists, Standing, start}
 use Rattle.c_grammar.specs.Answers.{Answer}
-use Rattle.c_grammar.specs.Reading.{Reader, begins_specifier, begins_with_mark, initializer_in, init_declarator_in, listed, listed_in_braces, items_in, externals_by, externals_in, declarators_behind}
+use Rattle.c_grammar.specs.Reading.{Reader, begins_specifier, begins_with_mark, initializer_in, init_declarator_in, listed, listed_in_braces, items_in, begins_label, ends_groups, standing_behind, group_item_in, groups_in, externals_by, externals_in, declarators_behind}
 use Rattle.c_grammar.proofs.SoundSteps.{Is, says_if}
 use Rattle.c_grammar.proofs.SoundExpressions.{IsSound, says_as}
+use Rattle.c_grammar.proofs.Sound.{IsGroupItem, item_label, item_statement, group_item_first, labelled_where, group_item_sound}
 use Rattle.c_grammar.proofs.SoundStatements.{initializer_sound, init_declarator_sound, declaration_sound, statement_sound, external_sound}
 use Rattle.c_grammar.proofs.FrontLaw.{front_of}
 use Rattle.c_grammar.proofs.FrontSteps.{front_map}
 use Rattle.c_grammar.specs.Fronts.{IsFront}
-use Rattle.c_grammar.proofs.CompletionSteps.{Has, has, Cuts, cuts_found, cuts_wrong, cuts_if, Behind, cuts_then, cuts_last}
-use Rattle.c_grammar.proofs.CompletionParts.{HasCuts, EndsBehind}
+use Rattle.c_grammar.proofs.CompletionSteps.{Has, has, Cuts, cuts_found, cuts_wrong, cuts_as, cuts_if, Behind, cuts_tail, cuts_next, cuts_then, cuts_last}
+use Rattle.c_grammar.proofs.CompletionParts.{HasCuts, EndsBehind, a_mark}
 use Rattle.c_grammar.proofs.CompletionMoves.{declarators_behind_cuts}
 use Rattle.c_grammar.proofs.CompletionRows.{listed_cuts, listed_in_braces_cuts}
 use Rattle.c_grammar.proofs.CompletionExpressions.{cuts_part}
 use Rattle.c_grammar.proofs.CompletionDeclarations.{initializer_cuts, init_declarator_cuts, declaration_cuts, external_cuts}
-use Rattle.c_grammar.proofs.CompletionStatements.{statement_cuts}
+use Rattle.c_grammar.proofs.CompletionStatements.{statement_cuts, label_cuts}
 
 module _ (d : ℕ) (r : Reader) (sound : IsSound d r) (cuts : HasCuts d r) where
   pub initializers_cuts : (names : Names) (ts : List Token)
@@ -81,6 +82,33 @@ module _ (d : ℕ) (r : Reader) (sound : IsSound d r) (cuts : HasCuts d r) where
       [] (λ z h. h) (λ z _ a t g. has _ (item_first g rule.no_items))
       (λ t rest g. cuts_last {S = Lists (after names t) rule.block_items} (items_cuts k (after names t) rest)
       [] (λ z h. h) (λ z _ b us h a i. has _ (item_first i h))
+      (λ us end. cuts_found)))
+
+  -- ---- the groups of a `switch`
+
+  group_item_front : {standing next : Standing} {names : Names} {a b : List Token} {t : Tree} → IsGroupItem standing names a b t next → IsFront (λ x y. IsGroupItem standing names x y t next) a b
+  group_item_front (item_label h) = front_map (front_of h) (λ x y. item_label)
+  group_item_front (item_statement e h) = front_map (front_of h) (λ x y. item_statement e)
+
+  -- behind a label, `;` is the least statement
+  group_item_cuts : (standing : Standing) (names : Names) (ts : List Token) → ends_groups standing ts ≡ false → Cuts (Has (Lists names (rule.groups standing))) ts (group_item_in d r names ts)
+  unfolding group_item_in
+  group_item_cuts standing names ts e = cuts_if (begins_label ts)
+      (λ _. cuts_tail (a_mark Semicolon ∷ []) (label_cuts d r sound cuts names ts) (λ z _. refl)
+      (λ z _ a g. has _ (rule.label_first g.holds (rule.labelled_statement refl rule.empty_statement (rule.no_more_groups refl)))))
+      (λ f. cuts_as (λ a z g. has _ (rule.labelled_statement (labelled_where standing ts e f) g.holds (rule.no_more_groups refl))) (statement_cuts d r sound cuts names ts))
+
+  pub groups_cuts : (k : ℕ) (standing : Standing) (names : Names) (ts : List Token) → Cuts (Has (Lists names (rule.groups standing))) ts (groups_in d r k standing names ts)
+  unfolding groups_in
+  groups_cuts zero standing names ts = cuts_wrong
+  groups_cuts (suc k) standing names ts = cuts_if (ends_groups standing ts)
+      (λ _. cuts_found)
+      (λ e. cuts_next {S = λ a b t. IsGroupItem standing names a b t (standing_behind ts)}
+      (group_item_cuts standing names ts e)
+      (group_item_sound d r sound standing names ts e)
+      (λ t b g. group_item_front g.holds)
+      (λ t rest g. cuts_last {S = Lists (after names t) (rule.groups (standing_behind ts))} (groups_cuts k (standing_behind ts) (after names t) rest)
+      [] (λ z h. h) (λ z _ b us h a i. has _ (group_item_first i h))
       (λ us end. cuts_found)))
 
   -- ---- external declarations

@@ -102,6 +102,7 @@ trees_front Rows.declarators e names a b t h = fronts_of h
 trees_front Rows.enumerators e names a b t h = fronts_of h
 trees_front Rows.parameters e names a b t h = fronts_of h
 trees_front Rows.block_items e names a b t h = fronts_of h
+trees_front Rows.groups e names a b t h = fronts_of h
 trees_front Rows.arguments e names a b t h = fronts_of h
 trees_front Rows.optional_length e names a b t h = fronts_of h
 

@@ -1,6 +1,6 @@
 -- Where a statement goes too deep, the tokens before the place are completed, where the next lower budget reads so.
 use Rattle.std.proofs.Common.{ℕ, ◌≤◌, false, ◌&&◌, not, List, [], ◌∷◌, refl, codes, bytes_eq, ◌++◌}
-use Rattle.c_lexer.specs.declared.token.Punct.TheVariants.{LeftParenthesis, RightParenthesis, LeftBrace, RightBrace, Semicolon}
+use Rattle.c_lexer.specs.declared.token.Punct.TheVariants.{LeftParenthesis, RightParenthesis, LeftBrace, RightBrace, Colon, Semicolon}
 use Rattle.c_lexer.specs.declared.token.Token.{Token}
 use Rattle.c_syntax.specs.Trees.{Tree}
 use Rattle.c_grammar.specs.Vocabulary.{Place, mark, word}
@@ -9,7 +9,7 @@ use Rattle.c_grammar.specs.Derivation as rule
 use Rattle.c_grammar.specs.Derivation.{Derives, Lists, ends_open}
 use Rattle.c_grammar.specs.Answers.{Answer, Ahead, ahead}
 use Rattle.c_grammar.specs.Meanings.{IsBody, body_of}
-use Rattle.c_grammar.specs.Reading.{Reader, Goal, Rows, begins_specifier, begins_with_word, begins_with_mark, behind_one, body_by, in_parentheses_then, if_in, while_in, do_in, for_behind, for_in, return_in, expression_statement_in, keyword_by, statement_by, statement_in}
+use Rattle.c_grammar.specs.Reading.{Reader, Goal, Rows, begins_specifier, begins_with_word, begins_with_mark, behind_one, body_by, in_parentheses_then, if_in, while_in, do_in, for_behind, for_in, switch_in, label_by, label_in, return_in, expression_statement_in, keyword_by, statement_by, statement_in}
 use Rattle.c_grammar.proofs.FirstTokens.{not_true}
 use Rattle.c_grammar.proofs.SoundSteps.{IsAhead, is_mark, is_word, ahead_is, word_is, both_true}
 use Rattle.c_grammar.proofs.SoundExpressions.{IsSound, expression_sound}
@@ -17,7 +17,7 @@ use Rattle.c_grammar.proofs.SoundTypes.{says_lower_tree}
 use Rattle.c_grammar.proofs.SoundStatements.{block_of_body}
 use Rattle.c_grammar.proofs.FrontLaw.{front_of}
 use Rattle.c_grammar.proofs.CompletionSteps.{Has, has, Cuts, cuts_found, cuts_wrong, cuts_as, cuts_token, cuts_if, cuts_fit, cuts_lower, cuts_then, cuts_expect, cuts_expect_word, cuts_behind_word}
-use Rattle.c_grammar.proofs.CompletionParts.{HasCuts, cuts_tree, cuts_any_tree, cuts_trees, a_mark, a_word, a_zero, zero_expression}
+use Rattle.c_grammar.proofs.CompletionParts.{HasCuts, cuts_tree, cuts_any_tree, cuts_trees, a_mark, a_word, a_zero, zero_conditional, zero_expression}
 use Rattle.c_grammar.proofs.CompletionExpressions.{expression_cuts}
 
 module _ (d : ℕ) (r : Reader) (sound : IsSound d r) (cuts : HasCuts d r) where
@@ -111,6 +111,14 @@ module _ (d : ℕ) (r : Reader) (sound : IsSound d r) (cuts : HasCuts d r) where
       (λ f behind. cuts_expect Semicolon behind (λ at5 behind2.
       for_behind_cuts (opened names) at f behind2 le (λ at3 at4 b c e z x y s i j k a g. has _ (rule.for_expression g i j k))))))
 
+  switch_cuts : (names : Names) (at : Place) (ts : List Token) → Cuts (λ a z. Statement names (word (codes "switch") at ∷ a) z) ts (switch_in d r names at ts)
+  unfolding switch_in
+  switch_cuts names at ts = in_parentheses_cuts names ts (a_mark LeftBrace ∷ a_mark RightBrace ∷ []) (λ z at2 at3 a x g. has _ (rule.switch_of g (rule.no_more_groups refl))) (λ x b.
+      cuts_expect LeftBrace b (λ at4 rest.
+      cuts_trees d r sound cuts Rows.groups refl (opened (after names x)) rest (a_mark RightBrace ∷ []) (λ z _. refl)
+      (λ z _ b items h at2 at3 a g. has _ (rule.switch_of g h))
+      (λ items behind. cuts_expect RightBrace behind (λ at5 end. cuts_found))))
+
   return_cuts : (names : Names) (at : Place) (ts : List Token) → Cuts (λ a z. Statement names (word (codes "return") at ∷ a) z) ts (return_in d r names at ts)
   unfolding return_in
   return_cuts names at ts = cuts_if (begins_with_mark Semicolon ts)
@@ -148,7 +156,10 @@ module _ (d : ℕ) (r : Reader) (sound : IsSound d r) (cuts : HasCuts d r) where
       (λ e. rw (word_is text _ e) (cuts_fit _ _ (a_mark Semicolon ∷ []) (λ z _. has _ rule.break_of) (λ k. cuts_token (cuts_expect Semicolon rest (λ at2 end. cuts_found)))))
       (λ _. cuts_if (bytes_eq text (codes "continue"))
       (λ e. rw (word_is text _ e) (cuts_fit _ _ (a_mark Semicolon ∷ []) (λ z _. has _ rule.continue_of) (λ k. cuts_token (cuts_expect Semicolon rest (λ at2 end. cuts_found)))))
-      (λ _. expression_statement_cuts names (word text at ∷ rest))))))))
+      (λ _. cuts_if (bytes_eq text (codes "switch"))
+      (λ e. rw (word_is text _ e) (cuts_fit _ _ (a_mark LeftParenthesis ∷ a_zero ∷ a_mark RightParenthesis ∷ a_mark LeftBrace ∷ a_mark RightBrace ∷ [])
+      (λ z _. has _ (rule.switch_of zero_expression (rule.no_more_groups refl))) (λ k. cuts_token (switch_cuts names at rest))))
+      (λ _. expression_statement_cuts names (word text at ∷ rest)))))))))
 
   statement_cuts_by : (names : Names) {ts : List Token} {h : Ahead} → IsAhead ts h → Cuts (Statement names) ts (statement_by d r names ts h)
   unfolding statement_by
@@ -160,3 +171,21 @@ module _ (d : ℕ) (r : Reader) (sound : IsSound d r) (cuts : HasCuts d r) where
   pub statement_cuts : (names : Names) (ts : List Token) → Cuts (Statement names) ts (statement_in d r names ts)
   unfolding statement_in
   statement_cuts names ts = statement_cuts_by names (ahead_is ts)
+
+  -- ---- labels
+
+  label_cuts_by : (names : Names) {ts : List Token} {h : Ahead} → IsAhead ts h → Cuts (Has (Derives names rule.switch_label)) ts (label_by d r names ts h)
+  unfolding label_by
+  label_cuts_by names (is_word {text = text} {at = at} {rest = rest}) =
+      cuts_if (bytes_eq text (codes "case"))
+      (λ e. rw (word_is text _ e) (cuts_fit _ _ (a_zero ∷ a_mark Colon ∷ []) (λ z _. has _ (rule.case_label zero_conditional)) (λ k.
+      cuts_token (cuts_tree d r sound cuts Goal.conditional refl names rest (a_mark Colon ∷ []) (λ z _. refl) (λ z _ a x g. has _ (rule.case_label g)) (λ x behind.
+      cuts_expect Colon behind (λ at2 end. cuts_found))))))
+      (λ _. cuts_if (bytes_eq text (codes "default"))
+      (λ e. rw (word_is text _ e) (cuts_fit _ _ (a_mark Colon ∷ []) (λ z _. has _ rule.default_label) (λ k. cuts_token (cuts_expect Colon rest (λ at2 end. cuts_found)))))
+      (λ _. cuts_wrong))
+  label_cuts_by names _ = cuts_wrong
+
+  pub label_cuts : (names : Names) (ts : List Token) → Cuts (Has (Derives names rule.switch_label)) ts (label_in d r names ts)
+  unfolding label_in
+  label_cuts names ts = label_cuts_by names (ahead_is ts)

@@ -127,10 +127,6 @@ pub cuts_as : {T : Type 0} {R S : List Token → List Token → Type 0} {ts : Li
     → Cuts S ts x
 cuts_as f c = cuts_first c (λ a z e. f a z)
 
--- an answer that is never too deep
-pub cuts_never : {T : Type 0} {S : List Token → List Token → Type 0} {ts : List Token} {x : Answer T} → Cuts Never ts x → Cuts S ts x
-cuts_never c = cuts_as (λ a z. never) c
-
 pub cuts_token : {T : Type 0} {R : List Token → List Token → Type 0} {t : Token} {ts : List Token} {x : Answer T}
     → Cuts (λ a z. R (t ∷ a) z) ts x
     → Cuts R (t ∷ ts) x

@@ -3,6 +3,7 @@ use Rattle.std.proofs.Common.{◌≡◌, ℕ, suc, ◌≤◌, Bool, true, List, 
 use Rattle.c_lexer.specs.declared.token.Token.{Token}
 use Rattle.c_syntax.specs.Trees.{Tree}
 use Rattle.c_grammar.specs.Scopes.{Names}
+use Rattle.c_grammar.specs.Derivation as rule
 use Rattle.c_grammar.specs.Derivation.{IsTreeOf}
 use Rattle.c_grammar.specs.Answers.{deep}
 use Rattle.c_grammar.specs.Reading.{Reader, Goal, Rows, Mode, level, goal_in, rows_in, read_unit}
@@ -18,7 +19,7 @@ use Rattle.c_grammar.proofs.CompletionDeclarators.{declared_cuts}
 use Rattle.c_grammar.proofs.CompletionDeclarations.{named_cuts, initializer_cuts, init_declarator_cuts, declaration_cuts, external_cuts}
 use Rattle.c_grammar.proofs.CompletionStatements.{body_cuts, statement_cuts}
 use Rattle.c_grammar.proofs.CompletionUnit as whole
-use Rattle.c_grammar.proofs.CompletionItems.{initializers_cuts, init_declarators_cuts, behind_cuts, items_cuts, externals_cuts}
+use Rattle.c_grammar.proofs.CompletionItems.{initializers_cuts, init_declarators_cuts, behind_cuts, items_cuts, groups_cuts, externals_cuts}
 
 -- each budget completes its places where the next lower one does
 module _ (d : ℕ) (r : Reader) (sound : IsSound d r) (cuts : HasCuts d r) where
@@ -67,6 +68,7 @@ module _ (d : ℕ) (r : Reader) (sound : IsSound d r) (cuts : HasCuts d r) where
   row_cuts Rows.enumerators e names ts = enumerators_cuts d r sound cuts names ts
   row_cuts Rows.parameters e names ts = parameters_row_cuts d r sound cuts names ts
   row_cuts Rows.block_items e names ts = items_cuts d r sound cuts (suc (length ts)) names ts
+  row_cuts Rows.groups e names ts = groups_cuts d r sound cuts (suc (length ts)) rule.at_first names ts
   row_cuts Rows.arguments e names ts = arguments_cuts d r sound cuts names ts
   row_cuts Rows.optional_length e names ts = length_cuts d r sound cuts names ts
 

@@ -35,7 +35,7 @@ word_front true true begins text = of_specs
 word_front true false begins text = of_expression
 word_front false typed begins text =
     keyword_front (begins || is_among (codes "struct" ∷ codes "enum" ∷ []) text) (bytes_eq (codes "sizeof") text)
-    (is_among (codes "if" ∷ codes "while" ∷ codes "do" ∷ codes "for" ∷ codes "break" ∷ codes "continue" ∷ codes "return" ∷ []) text)
+    (is_among (codes "if" ∷ codes "while" ∷ codes "do" ∷ codes "for" ∷ codes "break" ∷ codes "continue" ∷ codes "return" ∷ codes "switch" ∷ []) text)
 
 abbrev pub mark_front : Bool → Punct → Front
 mark_front true punct = of_expression
@@ -176,6 +176,7 @@ mutual
   has_front (grammar.do_while s x) = refl
   has_front (grammar.for_declaration f x y s) = refl
   has_front (grammar.for_expression f x y s) = refl
+  has_front (grammar.switch_of x ts) = refl
   has_front grammar.break_of = refl
   has_front grammar.continue_of = refl
   has_front grammar.return_nothing = refl

@@ -108,6 +108,10 @@ mutual
   front_of rule.continue_of = front_token (front_token (front_here (λ c e. rule.continue_of)))
   front_of rule.return_nothing = front_token (front_token (front_here (λ c e. rule.return_nothing)))
   front_of (rule.return_value x) = front_token (front_map (front_end (front_of x)) (λ x y. rule.return_value))
+  front_of (rule.switch_of x ts) =
+      front_token (front_token (front_then (front_end (front_end (front_of x))) (front_end (fronts_of ts)) (λ x y z. rule.switch_of)))
+  front_of (rule.case_label x) = front_token (front_map (front_end (front_of x)) (λ x y. rule.case_label))
+  front_of rule.default_label = front_token (front_token (front_here (λ c e. rule.default_label)))
   -- expressions
   front_of {names = names} {b = b} rule.absent =
       let tree : ℕ → Tree = λ n. plain_node kind.Empty n none in
@@ -171,6 +175,9 @@ mutual
   fronts_of rule.no_items = front_here (λ c e. rule.no_items)
   fronts_of (rule.declaration_first t ts) = front_then (front_of t) (fronts_of ts) (λ x y z. rule.declaration_first)
   fronts_of (rule.statement_first t ts) = front_then (front_of t) (fronts_of ts) (λ x y z. rule.statement_first)
+  fronts_of (rule.no_more_groups h) = front_here (λ c e. rule.no_more_groups h)
+  fronts_of (rule.label_first t ts) = front_then (front_of t) (fronts_of ts) (λ x y z. rule.label_first)
+  fronts_of (rule.labelled_statement h t ts) = front_then (front_of t) (fronts_of ts) (λ x y z. rule.labelled_statement h)
   fronts_of rule.no_arguments = front_here (λ c e. rule.no_arguments)
   fronts_of (rule.some_arguments ts) = front_map (fronts_of ts) (λ x y. rule.some_arguments)
   fronts_of (rule.last_argument t) = front_map (front_of t) (λ x y. rule.last_argument)

@@ -1,14 +1,17 @@
 -- What readings look at of the first token, and the marks and words that they expect.
-use Rattle.std.proofs.Common.{◌≡◌, ℕ, Bool, true, false, List, [], ◌∷◌, refl, ap, ◌∙◌, if◌then◌else◌, bytes_eq}
+use Rattle.std.proofs.Common.{◌≡◌, ℕ, Bool, true, false, ◌||◌, not, List, [], ◌∷◌, refl, ap, ◌∙◌, if◌then◌else◌, codes, bytes_eq}
 use Rattle.c_lexer.specs.declared.token.Punct.{Punct}
+use Rattle.c_lexer.specs.declared.token.Punct.TheVariants.{RightBrace}
 use Rattle.c_lexer.specs.declared.token.Token.{Token}
 use Rattle.c_lexer.specs.declared.token.TokenKind.{TokenKind}
 use Rattle.c_lexer.specs.declared.token.TokenKind.TheVariants as token
 use Rattle.c_grammar.specs.Vocabulary.{Place, is_identifier}
 use Rattle.c_grammar.specs.Scopes.{Names}
+use Rattle.c_grammar.specs.Derivation as rule
+use Rattle.c_grammar.specs.Derivation.{Standing}
 use Rattle.c_grammar.specs.Answers.{Answer, Ahead, ahead, ahead_by, same_mark, expect, expect_by, expect_word, expect_word_by, expect_identifier, expect_identifier_by}
 use Rattle.c_grammar.specs.Fronts.{first}
-use Rattle.c_grammar.specs.Reading.{begins_specifier, begins_specifier_by, begins_with_mark, begins_with_mark_by, begins_with_word, begins_with_word_by, goes_on_behind_void, goes_on_behind_void_by}
+use Rattle.c_grammar.specs.Reading.{begins_specifier, begins_specifier_by, begins_with_mark, begins_with_mark_by, begins_with_word, begins_with_word_by, begins_label, ends_groups, standing_behind, goes_on_behind_void, goes_on_behind_void_by}
 use Rattle.c_grammar.proofs.SoundSteps.{IsAhead, is_nothing, is_mark, is_word, is_integer, is_character, is_string, ahead_is}
 use Rattle.c_grammar.proofs.KeptSteps.{Keeps, keeps_at, keeps_no_token, keeps_if_first, all_wrong, inside, behind_if}
 
@@ -66,6 +69,19 @@ mark_first_decides p a b e = by_first (begins_with_mark_by p) (mark_kind p) a b 
 
 pub word_first_decides : (text : List ℕ) (a b : List Token) → first a ≡ first b → begins_with_word text a ≡ begins_with_word text b
 word_first_decides text a b e = by_first (begins_with_word_by text) (word_kind text) a b e
+
+pub label_first_decides : (a b : List Token) → first a ≡ first b → begins_label a ≡ begins_label b
+label_first_decides a b e =
+    ap (λ v. v || begins_with_word (codes "default") a) (word_first_decides (codes "case") a b e)
+    ∙ ap (λ v. begins_with_word (codes "case") b || v) (word_first_decides (codes "default") a b e)
+
+pub groups_end_by_first : (standing : Standing) (a b : List Token) → first a ≡ first b → ends_groups standing a ≡ ends_groups standing b
+groups_end_by_first rule.at_first a b e = ap not (label_first_decides a b e)
+groups_end_by_first rule.behind_label a b e = refl
+groups_end_by_first rule.behind_statement a b e = mark_first_decides RightBrace a b e
+
+pub standing_first : (a b : List Token) → first a ≡ first b → standing_behind a ≡ standing_behind b
+standing_first a b e = ap (λ p. if p then rule.behind_label else rule.behind_statement) (label_first_decides a b e)
 
 pub goes_on_first : (a b : List Token) → first a ≡ first b → goes_on_behind_void a ≡ goes_on_behind_void b
 goes_on_first a b e = by_first goes_on_behind_void_by goes_on_kind a b e

@@ -5,21 +5,23 @@ use Rattle.c_lexer.specs.declared.token.Token.{Token}
 use Rattle.c_syntax.specs.Trees.{Tree, Forest, none, ◌then◌, one}
 use Rattle.c_grammar.specs.Vocabulary.{Place, word}
 use Rattle.c_grammar.specs.Scopes.{Names, add, after, after_parameter, entries_behind}
+use Rattle.c_grammar.specs.Derivation as rule
+use Rattle.c_grammar.specs.Derivation.{Standing}
 use Rattle.c_grammar.specs.Answers.{Answer, found, and_then}
-use Rattle.c_grammar.specs.Reading.{Reader, Rows, Mode, begins_specifier, begins_with_mark, behind_one, assignment_in, declared_in, parameter_in, member_in, enumerator_in, initializer_in, init_declarator_in, declaration_in, external_in, statement_in, listed, members_in, items_in, externals_by, externals_in, arguments_in, length_in, declarators_behind, rows_in}
+use Rattle.c_grammar.specs.Reading.{Reader, Rows, Mode, begins_specifier, begins_with_mark, behind_one, assignment_in, declared_in, parameter_in, member_in, enumerator_in, initializer_in, init_declarator_in, declaration_in, external_in, statement_in, label_in, listed, members_in, items_in, begins_label, ends_groups, standing_behind, group_item_in, groups_in, externals_by, externals_in, arguments_in, length_in, declarators_behind, rows_in}
 use Rattle.c_grammar.proofs.SoundSteps.{mark_split, said}
 use Rattle.c_grammar.proofs.SoundExpressions.{IsSound}
 use Rattle.c_grammar.proofs.SoundDeclarators.{member_sound}
-use Rattle.c_grammar.proofs.SoundStatements.{declaration_sound, external_sound, statement_sound}
-use Rattle.c_grammar.proofs.CompleteStatementsLengths.{declaration_length, external_length, statement_length}
-use Rattle.c_grammar.proofs.KeptSteps.{Keeps, keeps_same, keeps_less, keeps_then, keeps_here, keeps_token, keeps_at_end, keeps_behind}
-use Rattle.c_grammar.proofs.KeptFirst.{keeps_if_specifier, keeps_if_mark}
+use Rattle.c_grammar.proofs.SoundStatements.{declaration_sound, external_sound, statement_sound, label_sound}
+use Rattle.c_grammar.proofs.CompleteStatementsLengths.{declaration_length, external_length, statement_length, label_length}
+use Rattle.c_grammar.proofs.KeptSteps.{Keeps, keeps_as, keeps_same, keeps_less, keeps_then, keeps_here, keeps_token, keeps_at_end, keeps_if_first, keeps_behind}
+use Rattle.c_grammar.proofs.KeptFirst.{keeps_if_specifier, keeps_if_mark, label_first_decides, groups_end_by_first, standing_first}
 use Rattle.c_grammar.proofs.KeptExpressions.{IsKept, conditional_kept, assignment_kept}
 use Rattle.c_grammar.proofs.KeptCounters.{behind_length, then_same, member_length}
 use Rattle.c_grammar.proofs.KeptTypes.{specifier_list_kept}
 use Rattle.c_grammar.proofs.KeptDeclarators.{declared_kept, parameter_kept, parameter_void_kept, member_kept, enumerator_kept}
 use Rattle.c_grammar.proofs.KeptDeclarations.{named_ready, initializer_kept, init_declarator_kept, init_behind_kept, declaration_kept, external_kept}
-use Rattle.c_grammar.proofs.KeptStatements.{statement_kept}
+use Rattle.c_grammar.proofs.KeptStatements.{statement_kept, label_kept}
 use Rattle.c_grammar.proofs.KeptListed.{listed_counted, listed_kept, listed_on_kept, listed_is, listed_in_braces_kept}
 
 module _ (d : ℕ) (r : Reader) (sound : IsSound d r) (kept : IsKept d r) where
@@ -99,6 +101,52 @@ module _ (d : ℕ) (r : Reader) (sound : IsSound d r) (kept : IsKept d r) where
       (λ _. keeps_here)
       (λ _. keeps_then (item_kept names ts) (λ t b e.
       keeps_then (items_kept n (after names t) b (omega (arith, lt, item_shorter names ts b t e))) (λ more end _. keeps_here))))
+
+  -- ---- the groups of a `switch`
+
+  group_item_kept : (names : Names) (ts : List Token) → Keeps 1 (group_item_in d r names) ts
+  unfolding group_item_in
+  group_item_kept names ts = keeps_if_first begins_label label_first_decides (λ _. label_kept d r sound kept names ts) (λ _. statement_kept d r sound kept names ts)
+
+  group_item_shorter : (names : Names) (ts b : List Token) (t : Tree) → group_item_in d r names ts ≡ found t b → length b < length ts
+  unfolding group_item_in
+  group_item_shorter names ts b t = by (begins_label ts)
+    where
+      by : (v : Bool) → (if v then label_in d r names ts else statement_in d r names ts) ≡ found t b → length b < length ts
+      by true e = let g = said t b (label_sound d r sound names ts) e in label_length g.holds
+      by false e = let g = said t b (statement_sound d r sound names ts) e in statement_length g.holds
+
+  groups_counted : (k n : ℕ) (standing : Standing) (names : Names) (ts : List Token) → length ts < k → length ts < n
+      → groups_in d r k standing names ts ≡ groups_in d r n standing names ts
+  unfolding groups_in
+  groups_counted zero n standing names ts lt ln = absurd (omega (arith, lt))
+  groups_counted (suc k) zero standing names ts lt ln = absurd (omega (arith, ln))
+  groups_counted (suc k) (suc n) standing names ts lt ln = ap (λ x. if ends_groups standing ts then found none ts else x) (then_same (group_item_in d r names ts) (λ t b e.
+      ap (λ x. and_then x (λ more end. found (t then more) end))
+      (groups_counted k n (standing_behind ts) (after names t) b (omega (arith, lt, group_item_shorter names ts b t e)) (omega (arith, ln, group_item_shorter names ts b t e)))))
+
+  groups_step : Standing → Names → List Token → Answer Forest
+  groups_step standing names ts = if ends_groups standing ts then found none ts
+      else and_then (group_item_in d r names ts) (λ t rest.
+      and_then (groups_in d r (suc (length rest)) (standing_behind ts) (after names t) rest) (λ more end. found (t then more) end))
+
+  groups_are : (standing : Standing) (names : Names) (ts : List Token) → groups_in d r (suc (length ts)) standing names ts ≡ groups_step standing names ts
+  unfolding groups_in groups_step
+  groups_are standing names ts = ap (λ x. if ends_groups standing ts then found none ts else x) (then_same (group_item_in d r names ts) (λ t b e.
+      ap (λ x. and_then x (λ more end. found (t then more) end))
+      (groups_counted (length ts) (suc (length b)) (standing_behind ts) (after names t) b (group_item_shorter names ts b t e) (omega arith))))
+
+  -- the place behind an item depends on its first token
+  groups_kept : (n : ℕ) (standing : Standing) (names : Names) (ts : List Token) → length ts < n → Keeps 1 (λ c. groups_in d r (suc (length c)) standing names c) ts
+  unfolding groups_step
+  groups_kept zero standing names ts lt = absurd (omega (arith, lt))
+  groups_kept (suc n) standing names ts lt = keeps_same (groups_are standing names) (keeps_if_first (ends_groups standing) (groups_end_by_first standing)
+      (λ _. keeps_here)
+      (λ _. keeps_as
+      (λ a h. ap (λ (next : Standing). and_then (group_item_in d r names a) (λ t rest.
+      and_then (groups_in d r (suc (length rest)) next (after names t) rest) (λ more end. found (t then more) end))) (standing_first a ts h))
+      (keeps_then (group_item_kept names ts) (λ t b e.
+      keeps_then (groups_kept n (standing_behind ts) (after names t) b (omega (arith, lt, group_item_shorter names ts b t e))) (λ more end _. keeps_here)))))
 
   -- ---- externals
 
@@ -188,5 +236,6 @@ module _ (d : ℕ) (r : Reader) (sound : IsSound d r) (kept : IsKept d r) where
   rows_kept Rows.enumerators names ts = listed_in_braces_kept d r (enumerator_in d r) (enumerator_kept d r sound kept) names ts
   rows_kept Rows.parameters names ts = listed_kept d r (parameter_in d r) (parameter_kept d r sound kept) after_parameter names ts
   rows_kept Rows.block_items names ts = items_kept (suc (length ts)) names ts (omega arith)
+  rows_kept Rows.groups names ts = groups_kept (suc (length ts)) rule.at_first names ts (omega arith)
   rows_kept Rows.arguments names ts = arguments_kept names ts
   rows_kept Rows.optional_length names ts = length_kept names ts

@@ -1,6 +1,6 @@
 -- The readings of statements keep their answers, where those within the next lower budget do.
 use Rattle.std.proofs.Common.{◌≡◌, ℕ, ◌≤◌, false, ◌&&◌, ◌||◌, not, List, [], ◌∷◌, if◌then◌else◌, refl, ap, ◌∙◌, arith, codes, bytes_eq}
-use Rattle.c_lexer.specs.declared.token.Punct.TheVariants.{LeftParenthesis, RightParenthesis, LeftBrace, RightBrace, Semicolon}
+use Rattle.c_lexer.specs.declared.token.Punct.TheVariants.{LeftParenthesis, RightParenthesis, LeftBrace, RightBrace, Colon, Semicolon}
 use Rattle.c_lexer.specs.declared.token.Token.{Token}
 use Rattle.c_syntax.specs.declared.kind.SynKind.TheVariants as kind
 use Rattle.c_syntax.specs.Trees.{Tree, none, ◌then◌, two, three, plain_node}
@@ -9,7 +9,7 @@ use Rattle.c_grammar.specs.Scopes.{Names, opened, after}
 use Rattle.c_grammar.specs.Derivation.{ends_open}
 use Rattle.c_grammar.specs.Answers.{Answer, found, and_then, Ahead, ahead, ahead_by}
 use Rattle.c_grammar.specs.Fronts.{first}
-use Rattle.c_grammar.specs.Reading.{Reader, Goal, Rows, begins_with_mark, begins_with_word, behind_one, body_by, optional_expression_in, in_parentheses_then, if_in, while_in, do_in, for_behind, for_in, return_in, expression_statement_in, keyword_by, statement_by, statement_in}
+use Rattle.c_grammar.specs.Reading.{Reader, Goal, Rows, begins_with_mark, begins_with_word, behind_one, body_by, optional_expression_in, in_parentheses_then, if_in, while_in, do_in, for_behind, for_in, switch_in, label_by, label_in, return_in, expression_statement_in, keyword_by, statement_by, statement_in}
 use Rattle.c_grammar.proofs.SoundSteps.{IsAhead, is_nothing, is_mark, is_word, ahead_is, mark_split, word_split, both_true}
 use Rattle.c_grammar.proofs.SoundExpressions.{IsSound}
 use Rattle.c_grammar.proofs.FrontSteps.{same_start}
@@ -95,6 +95,13 @@ module _ (d : ℕ) (r : Reader) (sound : IsSound d r) (kept : IsKept d r) where
       (λ _. keeps_then (kept.tree Goal.optional_expression (opened names) rest le) (λ f behind _.
       keeps_expect Semicolon behind (λ behind2. keeps_less (for_behind_kept le (opened names) at f behind2))))))
 
+  switch_kept : (names : Names) (at : Place) (ts : List Token) → Keeps 1 (switch_in d r names at) ts
+  unfolding switch_in
+  switch_kept names at ts = in_parentheses_kept names ts (λ x behind. keeps_less (
+      keeps_expect LeftBrace behind (λ behind2. keeps_less (
+      keeps_then (kept.trees Rows.groups (opened (after names x)) behind2) (λ items behind3 _.
+      keeps_expect RightBrace behind3 (λ end. keeps_here))))))
+
   return_kept : (names : Names) (at : Place) (ts : List Token) → Keeps 1 (return_in d r names at) ts
   unfolding return_in
   return_kept names at ts = keeps_if_mark Semicolon ts
@@ -118,7 +125,8 @@ module _ (d : ℕ) (r : Reader) (sound : IsSound d r) (kept : IsKept d r) where
       (λ _. behind_if (bytes_eq text (codes "return")) (λ _. inside (keeps_fit _ _ (λ le. keeps_less (return_kept names at rest))))
       (λ _. behind_if (bytes_eq text (codes "break")) (λ _. inside (keeps_fit _ _ (λ le. keeps_less (keeps_expect Semicolon rest (λ end. keeps_here)))))
       (λ _. behind_if (bytes_eq text (codes "continue")) (λ _. inside (keeps_fit _ _ (λ le. keeps_less (keeps_expect Semicolon rest (λ end. keeps_here)))))
-      (λ _. behind_it (expression_statement_kept names (word text at ∷ rest)))))))))
+      (λ _. behind_if (bytes_eq text (codes "switch")) (λ _. inside (keeps_fit _ _ (λ le. keeps_less (switch_kept names at rest))))
+      (λ _. behind_it (expression_statement_kept names (word text at ∷ rest))))))))))
 
   statement_kept_by : (names : Names) {ts : List Token} {h : Ahead} → IsAhead ts h → Keeps 1 (λ c. statement_by d r names c (ahead c)) ts
   unfolding statement_by ahead ahead_by
@@ -131,3 +139,18 @@ module _ (d : ℕ) (r : Reader) (sound : IsSound d r) (kept : IsKept d r) where
   pub statement_kept : (names : Names) (ts : List Token) → Keeps 1 (statement_in d r names) ts
   unfolding statement_in
   statement_kept names ts = statement_kept_by names (ahead_is ts)
+
+  label_kept_by : (names : Names) {ts : List Token} {h : Ahead} → IsAhead ts h → Keeps 1 (λ c. label_by d r names c (ahead c)) ts
+  unfolding label_by ahead ahead_by
+  label_kept_by names is_nothing = keeps_no_token refl
+  label_kept_by names (is_word {text = text} {rest = rest}) = keeps_at (
+      behind_if (bytes_eq text (codes "case")) (λ _. inside (keeps_fit _ _ (λ le. keeps_less (
+      keeps_then (kept.tree Goal.conditional names rest (omega arith)) (λ x behind _.
+      keeps_expect Colon behind (λ end. keeps_here))))))
+      (λ _. behind_if (bytes_eq text (codes "default")) (λ _. inside (keeps_fit _ _ (λ le. keeps_less (keeps_expect Colon rest (λ end. keeps_here)))))
+      (λ _. all_wrong (λ c. refl))))
+  label_kept_by names _ = keeps_at (all_wrong (λ c. refl))
+
+  pub label_kept : (names : Names) (ts : List Token) → Keeps 1 (label_in d r names) ts
+  unfolding label_in
+  label_kept names ts = label_kept_by names (ahead_is ts)

@@ -35,6 +35,8 @@ pub mod CompleteTypesParameters
 pub mod Completeness
 pub mod OneTree
 pub mod NoTrees
+pub mod Examples
+pub mod SwitchKids
 pub mod KeptSteps
 pub mod KeptFirst
 pub mod KeptExpressions

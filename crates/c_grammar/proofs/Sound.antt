@@ -1,24 +1,50 @@
 -- What is read within a budget is derived, and no higher than the budget.
-use Rattle.std.proofs.Common.{◌≡◌, ℕ, zero, suc, ◌≤◌, Bool, false, List, [], ◌∷◌, length, if◌then◌else◌, arith}
+use Rattle.std.proofs.Common.{◌≡◌, ℕ, zero, suc, ◌≤◌, Bool, true, false, List, [], ◌∷◌, length, not, if◌then◌else◌, refl, sym, ap, ◌∙◌, subst, arith}
 use Rattle.c_lexer.specs.declared.token.Punct.TheVariants.{RightBracket, RightParenthesis, RightBrace, Comma}
 use Rattle.c_lexer.specs.declared.token.Token.{Token}
 use Rattle.c_syntax.specs.Trees.{Tree, Forest, ◌then◌, one, height, forest_height}
 use Rattle.c_grammar.specs.Vocabulary.{Place, mark}
 use Rattle.c_grammar.specs.Scopes.{Names, opened, add, after, after_parameter, entries_behind}
 use Rattle.c_grammar.specs.Derivation as rule
-use Rattle.c_grammar.specs.Derivation.{Derives, Lists, IsTreeOf}
+use Rattle.c_grammar.specs.Derivation.{Derives, Lists, IsTreeOf, Standing, may_end, is_labelled}
 use Rattle.c_grammar.specs.Answers.{Answer, found}
-use Rattle.c_grammar.specs.Reading.{Reader, Goal, Rows, Mode, begins_specifier, begins_with_mark, behind_one, assignment_in, init_declarator_in, initializer_in, declared_in, enumerator_in, parameter_in, goal_in, rows_in, listed, listed_in_braces, members_in, items_in, externals_by, externals_in, arguments_in, length_in, declarators_behind, level, no_reader, read, read_unit}
+use Rattle.c_grammar.specs.Reading.{Reader, Goal, Rows, Mode, begins_specifier, begins_with_mark, behind_one, assignment_in, init_declarator_in, initializer_in, declared_in, enumerator_in, parameter_in, goal_in, rows_in, listed, listed_in_braces, members_in, items_in, begins_label, ends_groups, standing_behind, group_item_in, groups_in, externals_by, externals_in, arguments_in, length_in, declarators_behind, level, no_reader, read, read_unit}
 use Rattle.c_grammar.specs.Meanings.{IsTree, AreTrees}
 use Rattle.c_grammar.proofs.SoundSteps.{Says, says_found, says_wrong, says_deep, Is, Are, said, says_then, says_map, says_if, mark_split, before}
 use Rattle.c_grammar.proofs.SoundExpressions.{IsSound, says_good, says_as, unary_sound, cast_sound, binary_sound, conditional_sound, assignment_sound, expression_sound}
 use Rattle.c_grammar.proofs.SoundTypes.{specifier_sound, specifier_list_sound, specifiers_sound}
 use Rattle.c_grammar.proofs.SoundDeclarators.{declarator_of, declared_sound, parameter_sound, type_name_sound, member_sound, enumerator_sound}
-use Rattle.c_grammar.proofs.SoundStatements.{initializer_sound, init_declarator_sound, init_behind_sound, declaration_sound, external_sound, body_sound, optional_expression_sound, statement_sound}
+use Rattle.c_grammar.proofs.SoundStatements.{initializer_sound, init_declarator_sound, init_behind_sound, declaration_sound, external_sound, body_sound, optional_expression_sound, statement_sound, label_sound}
 
 -- what goes before items of a block
 abbrev IsItem : Names → List Token → List Token → Tree → Type 0
 IsItem names a b t = (c : List Token) (us : Forest) → Lists (after names t) rule.block_items b c us → Lists names rule.block_items a c (t then us)
+
+-- a label or a statement among the groups of a `switch`, at one place and before another
+pub data IsGroupItem (standing : Standing) (names : Names) (a b : List Token) (t : Tree) : Standing → Type 0 where
+  item_label : Derives names rule.switch_label a b t → IsGroupItem standing names a b t rule.behind_label
+  item_statement : is_labelled standing ≡ true → Derives names rule.statement a b t → IsGroupItem standing names a b t rule.behind_statement
+
+pub group_item_first : {standing next : Standing} {names : Names} {a b c : List Token} {t : Tree} {us : Forest}
+    → IsGroupItem standing names a b t next
+    → Lists (after names t) (rule.groups next) b c us
+    → Lists names (rule.groups standing) a c (t then us)
+group_item_first (item_label h) i = rule.label_first h i
+group_item_first (item_statement e h) i = rule.labelled_statement e h i
+
+ends_where : (standing : Standing) (ts : List Token) → ends_groups standing ts ≡ true → may_end standing ≡ true
+ends_where rule.at_first ts e = refl
+ends_where rule.behind_label ts e = e
+ends_where rule.behind_statement ts e = refl
+
+-- a statement stands behind a label
+pub labelled_where : (standing : Standing) (ts : List Token) → ends_groups standing ts ≡ false → begins_label ts ≡ false → is_labelled standing ≡ true
+labelled_where rule.at_first ts e f = sym e ∙ ap not f
+labelled_where rule.behind_label ts e f = refl
+labelled_where rule.behind_statement ts e f = refl
+
+pub standing_at : (ts : List Token) (b : Bool) → begins_label ts ≡ b → standing_behind ts ≡ (if b then rule.behind_label else rule.behind_statement)
+standing_at ts b e = ap (λ p. if p then rule.behind_label else rule.behind_statement) e
 
 module _ (d : ℕ) (r : Reader) (sound : IsSound d r) where
   -- ---- rows
@@ -147,6 +173,23 @@ module _ (d : ℕ) (r : Reader) (sound : IsSound d r) where
       (λ t rest i. says_then (items_sound k (after names t) rest) (λ more end s.
       says_found (record { holds = i.holds end more s.holds; fits = omega (arith, i.fits, s.fits) }))))
 
+  pub group_item_sound : (standing : Standing) (names : Names) (ts : List Token) → ends_groups standing ts ≡ false
+      → Says (Is (suc d) (λ a b t. IsGroupItem standing names a b t (standing_behind ts)) ts) (group_item_in d r names ts)
+  unfolding group_item_in
+  group_item_sound standing names ts e = says_if (begins_label ts)
+      (λ f. says_as (λ t b h. subst (IsGroupItem standing names ts b t) (sym (standing_at ts true f)) (item_label h)) (label_sound d r sound names ts))
+      (λ f. says_as (λ t b h. subst (IsGroupItem standing names ts b t) (sym (standing_at ts false f)) (item_statement (labelled_where standing ts e f) h)) (statement_sound d r sound names ts))
+
+  groups_sound : (k : ℕ) (standing : Standing) (names : Names) (ts : List Token)
+      → Says (Are (suc d) (Lists names (rule.groups standing)) ts) (groups_in d r k standing names ts)
+  unfolding groups_in
+  groups_sound zero standing names ts = says_wrong
+  groups_sound (suc k) standing names ts = says_if (ends_groups standing ts)
+      (λ e. says_found (record { holds = rule.no_more_groups (ends_where standing ts e); fits = omega arith }))
+      (λ e. says_then (group_item_sound standing names ts e) (λ t rest i.
+      says_then (groups_sound k (standing_behind ts) (after names t) rest) (λ more end s.
+      says_found (record { holds = group_item_first i.holds s.holds; fits = omega (arith, i.fits, s.fits) }))))
+
   externals_sound_by : {names : Names} {a : List Token} (t : Tree) (rest : List Token) (deeper : Answer Forest)
       → Is (suc d) (Derives names rule.external) a t rest
       → Says (Are (suc d) (Lists (after names t) rule.externals) rest) deeper
@@ -189,6 +232,7 @@ module _ (d : ℕ) (r : Reader) (sound : IsSound d r) where
   rows_sound Rows.enumerators names ts = enumerators_sound names ts
   rows_sound Rows.parameters names ts = parameters_sound names ts
   rows_sound Rows.block_items names ts = items_sound (suc (length ts)) names ts
+  rows_sound Rows.groups names ts = groups_sound (suc (length ts)) rule.at_first names ts
   rows_sound Rows.arguments names ts = arguments_sound names ts
   rows_sound Rows.optional_length names ts = length_sound names ts
 

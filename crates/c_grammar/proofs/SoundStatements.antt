@@ -1,6 +1,6 @@
 -- What is read as a declaration or a statement within a budget is derived, where the next lower budget reads so.
 use Rattle.std.proofs.Common.{◌≡◌, ℕ, suc, ◌<◌, ◌≤◌, Bool, false, ◌&&◌, ◌||◌, not, List, ◌∷◌, if◌then◌else◌, ap, ◌∙◌, arith, codes, bytes_eq}
-use Rattle.c_lexer.specs.declared.token.Punct.TheVariants.{LeftParenthesis, RightParenthesis, LeftBrace, RightBrace, Semicolon, Equal, Comma}
+use Rattle.c_lexer.specs.declared.token.Punct.TheVariants.{LeftParenthesis, RightParenthesis, LeftBrace, RightBrace, Colon, Semicolon, Equal, Comma}
 use Rattle.c_lexer.specs.declared.token.Token.{Token}
 use Rattle.c_syntax.specs.declared.kind.SynKind.TheVariants as kind
 use Rattle.c_syntax.specs.Trees.{Tree, ◌then◌, one, three, plain_node, height}
@@ -9,7 +9,7 @@ use Rattle.c_grammar.specs.Scopes.{Names, opened, says_typedef, after, in_body}
 use Rattle.c_grammar.specs.Derivation as rule
 use Rattle.c_grammar.specs.Derivation.{Derives, Lists, start, ends_open}
 use Rattle.c_grammar.specs.Answers.{Answer, Ahead, ahead}
-use Rattle.c_grammar.specs.Reading.{Reader, Goal, Rows, Mode, begins_specifier, begins_with_word, begins_with_mark, behind_one, initializer_by, initializer_in, initialized_by, init_declarator_in, init_behind_by, init_behind_in, declaration_behind, declaration_in, declaration_from, function_by, external_in, body_by, optional_expression_in, in_parentheses_then, if_in, while_in, do_in, for_behind, for_in, return_in, expression_statement_in, keyword_by, statement_by, statement_in}
+use Rattle.c_grammar.specs.Reading.{Reader, Goal, Rows, Mode, begins_specifier, begins_with_word, begins_with_mark, behind_one, initializer_by, initializer_in, initialized_by, init_declarator_in, init_behind_by, init_behind_in, declaration_behind, declaration_in, declaration_from, function_by, external_in, body_by, optional_expression_in, in_parentheses_then, if_in, while_in, do_in, for_behind, for_in, switch_in, label_by, label_in, return_in, expression_statement_in, keyword_by, statement_by, statement_in}
 use Rattle.c_grammar.specs.Meanings.{IsTree, IsBody, body_of}
 use Rattle.c_grammar.proofs.FirstTokens.{not_true}
 use Rattle.c_grammar.proofs.SoundSteps.{Says, says_wrong, Is, says_then, says_if, says_fit, says_any, says_expect, says_expect_word, says_close, IsAhead, is_mark, is_word, ahead_is, word_is, both_true, mark_split, word_split, before}
@@ -194,6 +194,14 @@ module _ (d : ℕ) (r : Reader) (sound : IsSound d r) where
       says_close Semicolon g (λ at5 behind2 c0.
       for_behind_sound (opened names) at _ f behind2 g.fits (λ at3 at4 b c e2 x y s i j k. rule.for_expression c0 i j k))))))
 
+  switch_sound : (names : Names) (at : Place) (ts : List Token) → 2 ≤ d → Says (Statement names (word (codes "switch") at ∷ ts)) (switch_in d r names at ts)
+  unfolding switch_in
+  switch_sound names at ts le = in_parentheses_sound names ts (λ at2 at3 x a b e c f. rw e (
+      says_expect LeftBrace b (λ at4 behind e2.
+      says_then (sound.trees Rows.groups (opened (after names x)) behind) (λ items behind2 g.
+      says_close RightBrace g (λ at5 end h.
+      says_good (rule.switch_of (rw e2 at c) h) (omega (arith, f, g.fits)))))))
+
   return_sound : (names : Names) (at : Place) (ts : List Token) → 1 ≤ d → Says (Statement names (word (codes "return") at ∷ ts)) (return_in d r names at ts)
   unfolding return_in
   return_sound names at ts le = says_if (begins_with_mark Semicolon ts)
@@ -220,7 +228,8 @@ module _ (d : ℕ) (r : Reader) (sound : IsSound d r) where
       (λ e. says_fit _ _ _ (λ le. says_expect Semicolon rest (λ at2 end e2. rw (word_is text _ e, e2) (says_good rule.break_of (omega (arith, le))))))
       (λ _. says_if (bytes_eq text (codes "continue"))
       (λ e. says_fit _ _ _ (λ le. says_expect Semicolon rest (λ at2 end e2. rw (word_is text _ e, e2) (says_good rule.continue_of (omega (arith, le))))))
-      (λ _. expression_statement_sound names (word text at ∷ rest))))))))
+      (λ _. says_if (bytes_eq text (codes "switch")) (λ e. says_fit _ _ _ (λ le. rw (word_is text _ e) (switch_sound names at rest le)))
+      (λ _. expression_statement_sound names (word text at ∷ rest)))))))))
 
   statement_sound_by : (names : Names) {ts : List Token} {h : Ahead} → IsAhead ts h → Says (Statement names ts) (statement_by d r names ts h)
   unfolding statement_by
@@ -232,3 +241,20 @@ module _ (d : ℕ) (r : Reader) (sound : IsSound d r) where
   pub statement_sound : (names : Names) (ts : List Token) → Says (Is (suc d) (Derives names rule.statement) ts) (statement_in d r names ts)
   unfolding statement_in
   statement_sound names ts = statement_sound_by names (ahead_is ts)
+
+  -- ---- labels
+
+  label_sound_by : (names : Names) {ts : List Token} {h : Ahead} → IsAhead ts h → Says (Is (suc d) (Derives names rule.switch_label) ts) (label_by d r names ts h)
+  unfolding label_by
+  label_sound_by names (is_word {text = text} {at = at} {rest = rest}) =
+      says_if (bytes_eq text (codes "case")) (λ e. says_fit _ _ _ (λ le.
+      says_then (sound.tree Goal.conditional names rest) (λ x behind g.
+      says_close Colon g (λ at2 end c. rw (word_is text _ e) (says_good (rule.case_label c) (omega (arith, g.fits)))))))
+      (λ _. says_if (bytes_eq text (codes "default"))
+      (λ e. says_fit _ _ _ (λ le. says_expect Colon rest (λ at2 end e2. rw (word_is text _ e, e2) (says_good rule.default_label (omega (arith, le))))))
+      (λ _. says_wrong))
+  label_sound_by names _ = says_wrong
+
+  pub label_sound : (names : Names) (ts : List Token) → Says (Is (suc d) (Derives names rule.switch_label) ts) (label_in d r names ts)
+  unfolding label_in
+  label_sound names ts = label_sound_by names (ahead_is ts)

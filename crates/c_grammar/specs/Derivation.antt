@@ -43,6 +43,7 @@ pub data Part : Type 0 where
   direct_abstract : Part
   block : Part
   statement : Part
+  switch_label : Part
   -- an expression, or nothing
   optional_expression : Part
   expression : Part
@@ -55,6 +56,12 @@ pub data Part : Type 0 where
   postfix : Part
   primary : Part
 
+-- a place in the braces of a `switch`
+pub data Standing : Type 0 where
+  at_first : Standing
+  behind_label : Standing
+  behind_statement : Standing
+
 -- what stands for trees
 pub data Row : Type 0 where
   externals : Row
@@ -66,6 +73,8 @@ pub data Row : Type 0 where
   enumerators : Row
   parameters : Row
   block_items : Row
+  -- from such a place on
+  groups : Standing → Row
   arguments : Row
   argument_list : Row
   -- a conditional expression, or nothing
@@ -93,6 +102,16 @@ last_ends_open (tree label kids (tree next below rest)) = last_ends_open (tree n
 
 abbrev pub ends_open : Tree → Bool
 ends_open t = last_ends_open (one t)
+
+-- the groups of a `switch` may end there: a statement stands behind each label. C99 6.8.1
+abbrev pub may_end : Standing → Bool
+may_end behind_label = false
+may_end other = true
+
+-- a statement may stand there: a label stands somewhere before it
+abbrev pub is_labelled : Standing → Bool
+is_labelled at_first = false
+is_labelled other = true
 
 -- the parameters are the word `void` alone
 abbrev pub is_lone_void : Forest → Bool
@@ -356,6 +375,18 @@ mutual
     return_value : {names : Names} {a b : List Token} {at2 at : Place} {x : Tree}
         → Derives names expression a (mark Semicolon at2 ∷ b) x
         → Derives names statement (word (codes "return") at ∷ a) b (plain_node kind.Return at.start (one x))
+    -- switch = "switch" "(" expr ")" "{" { group } "}"; C99 6.8.4.2; that a body in braces, with groups, is the only one, and
+    -- that its braces are a scope, behind the expression, is this profile's
+    switch_of : {names : Names} {a b c : List Token} {at3 at4 at5 at at2 : Place} {x : Tree} {ts : Forest}
+        → Derives names expression a (mark RightParenthesis at3 ∷ mark LeftBrace at4 ∷ b) x
+        → Lists (opened (after names x)) (groups at_first) b (mark RightBrace at5 ∷ c) ts
+        → Derives names statement (word (codes "switch") at ∷ mark LeftParenthesis at2 ∷ a) c (plain_node kind.Switch at.start (x then ts))
+    -- label = "case" cond ":" | "default" ":"; C99 6.8.1
+    case_label : {names : Names} {a b : List Token} {at2 at : Place} {x : Tree}
+        → Derives names conditional a (mark Colon at2 ∷ b) x
+        → Derives names switch_label (word (codes "case") at ∷ a) b (plain_node kind.Case at.start (one x))
+    default_label : {names : Names} {at at2 : Place} {b : List Token}
+        → Derives names switch_label (word (codes "default") at ∷ mark Colon at2 ∷ b) b (plain_node kind.Default at.start none)
     -- [ expr ]
     absent : {names : Names} {b : List Token}
         → Derives names optional_expression b b (plain_node kind.Empty (start_of b) none)
@@ -560,6 +591,20 @@ mutual
         → Derives names statement a b t
         → Lists (after names t) block_items b c ts
         → Lists names block_items a c (t then ts)
+    -- { group }; group = label { label } stmt { stmt }: none stands last, by C99 6.8.1; that a label stands first, and that no
+    -- declaration stands among them, is this profile's
+    no_more_groups : {names : Names} {standing : Standing} {b : List Token}
+        → may_end standing ≡ true
+        → Lists names (groups standing) b b none
+    label_first : {names : Names} {standing : Standing} {a b c : List Token} {t : Tree} {ts : Forest}
+        → Derives names switch_label a b t
+        → Lists (after names t) (groups behind_label) b c ts
+        → Lists names (groups standing) a c (t then ts)
+    labelled_statement : {names : Names} {standing : Standing} {a b c : List Token} {t : Tree} {ts : Forest}
+        → is_labelled standing ≡ true
+        → Derives names statement a b t
+        → Lists (after names t) (groups behind_statement) b c ts
+        → Lists names (groups standing) a c (t then ts)
     -- [ assign { "," assign } ]
     no_arguments : {names : Names} {b : List Token}
         → Lists names arguments b b none

@@ -5,3 +5,4 @@ pub mod Fronts
 pub mod Answers
 pub mod Reading
 pub mod Meanings
+pub mod Checkable

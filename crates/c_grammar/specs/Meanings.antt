@@ -65,5 +65,6 @@ AreTrees Rows.declarators names = Lists names Row.declarators
 AreTrees Rows.enumerators names = Lists names Row.enumerators
 AreTrees Rows.parameters names = Lists names Row.parameters
 AreTrees Rows.block_items names = Lists names Row.block_items
+AreTrees Rows.groups names = Lists names (Row.groups rule.at_first)
 AreTrees Rows.arguments names = Lists names Row.arguments
 AreTrees Rows.optional_length names = Lists names Row.optional_length

@@ -12,7 +12,7 @@ use Rattle.c_syntax.specs.declared.kind.SynKind.TheVariants as kind
 use Rattle.c_syntax.specs.Trees.{Tree, Forest, none, tree, ◌then◌, one, two, three, text_node, plain_node, int_node, char_node, string_node, height}
 use Rattle.c_grammar.specs.Vocabulary.{is_identifier, is_type_word, is_storage_word, is_unary_operator, is_assignment, level_of, Place, start_of}
 use Rattle.c_grammar.specs.Scopes.{Names, opened, is_typedef_name, add, says_type, says_typedef, after, after_declarator, after_parameter, entries_behind, in_body}
-use Rattle.c_grammar.specs.Derivation.{start, first_start, no_name, ends_open}
+use Rattle.c_grammar.specs.Derivation.{Standing, at_first, behind_label, behind_statement, start, first_start, no_name, ends_open}
 use Rattle.c_grammar.specs.Answers.{Answer, found, wrong, deep, and_then, fit, Ahead, mark_ahead, word_ahead, integer_ahead, character_ahead, string_ahead, ahead, same_mark, expect, expect_word, expect_identifier}
 
 -- ---- what is read
@@ -62,6 +62,8 @@ pub data Rows : Type 0 where
   enumerators : Rows
   parameters : Rows
   block_items : Rows
+  -- of a `switch`
+  groups : Rows
   arguments : Rows
   optional_length : Rows
 
@@ -180,6 +182,20 @@ lower (suc d) own nested = nested
 unfoldable pub if_any : {T : Type 0} → ℕ → List Token → Answer T → Answer T
 if_any zero ts answer = deep ts
 if_any (suc d) ts answer = answer
+
+-- a label of a `switch` begins here
+abbrev pub begins_label : List Token → Bool
+begins_label ts = begins_with_word (codes "case") ts || begins_with_word (codes "default") ts
+
+-- no group begins here, or the brace behind the groups stands here
+abbrev pub ends_groups : Standing → List Token → Bool
+ends_groups at_first ts = not (begins_label ts)
+ends_groups behind_label ts = false
+ends_groups behind_statement ts = begins_with_mark RightBrace ts
+
+-- the place behind the label or the statement that begins here
+abbrev pub standing_behind : List Token → Standing
+standing_behind ts = if begins_label ts then behind_label else behind_statement
 
 -- the names behind a declarator; an absent one declares nothing
 unfoldable pub after_any : Names → Tree → Names
@@ -527,6 +543,12 @@ module _ (d : ℕ) (r : Reader) where
       else and_then (r.tree_of expression names ts) (λ x behind.
       expect Semicolon behind (λ end. found (plain_node kind.Return at.start (one x)) end))
 
+  unfoldable pub switch_in : Names → Place → List Token → Answer Tree
+  switch_in names at ts = in_parentheses_then names ts (λ x behind.
+      expect LeftBrace behind (λ behind2.
+      and_then (r.trees_of groups (opened (after names x)) behind2) (λ items behind3.
+      expect RightBrace behind3 (λ end. found (plain_node kind.Switch at.start (x then items)) end))))
+
   unfoldable pub expression_statement_in : Names → List Token → Answer Tree
   expression_statement_in names ts = and_then (lower d (expression_in names ts) (r.tree_of expression names ts)) (λ x behind.
       expect Semicolon behind (λ end. found (plain_node kind.ExprStmt (start x) (one x)) end))
@@ -540,7 +562,8 @@ module _ (d : ℕ) (r : Reader) where
       else (if bytes_eq text (codes "return") then fit 1 d rest (return_in names at rest)
       else (if bytes_eq text (codes "break") then fit 1 d rest (expect Semicolon rest (λ end. found (plain_node kind.Break at.start none) end))
       else (if bytes_eq text (codes "continue") then fit 1 d rest (expect Semicolon rest (λ end. found (plain_node kind.Continue at.start none) end))
-      else expression_statement_in names ts))))))
+      else (if bytes_eq text (codes "switch") then fit 2 d rest (switch_in names at rest)
+      else expression_statement_in names ts)))))))
 
   unfoldable pub statement_by : Names → List Token → Ahead → Answer Tree
   statement_by names ts (mark_ahead LeftBrace at rest) = body_by (opened names) ts (mark_ahead LeftBrace at rest)
@@ -550,6 +573,19 @@ module _ (d : ℕ) (r : Reader) where
 
   unfoldable pub statement_in : Names → List Token → Answer Tree
   statement_in names ts = statement_by names ts (ahead ts)
+
+  -- a label of a `switch`
+  unfoldable pub label_by : Names → List Token → Ahead → Answer Tree
+  label_by names ts (word_ahead text at rest) =
+      if bytes_eq text (codes "case") then fit 2 d rest (
+      and_then (r.tree_of conditional names rest) (λ x behind.
+      expect Colon behind (λ end. found (plain_node kind.Case at.start (one x)) end)))
+      else (if bytes_eq text (codes "default") then fit 1 d rest (expect Colon rest (λ end. found (plain_node kind.Default at.start none) end))
+      else wrong ts)
+  label_by names ts other = wrong ts
+
+  unfoldable pub label_in : Names → List Token → Answer Tree
+  label_in names ts = label_by names ts (ahead ts)
 
   -- ---- all goals
 
@@ -606,6 +642,16 @@ module _ (d : ℕ) (r : Reader) where
       else and_then (if begins_specifier false names ts then declaration_in names ts else statement_in names ts) (λ t rest.
       and_then (items_in k (after names t) rest) (λ more end. found (t then more) end))
 
+  -- a label or a statement among the groups of a `switch`
+  unfoldable pub group_item_in : Names → List Token → Answer Tree
+  group_item_in names ts = if begins_label ts then label_in names ts else statement_in names ts
+
+  unfoldable pub groups_in : ℕ → Standing → Names → List Token → Answer Forest
+  groups_in zero standing names ts = wrong ts
+  groups_in (suc k) standing names ts = if ends_groups standing ts then found none ts
+      else and_then (group_item_in names ts) (λ t rest.
+      and_then (groups_in k (standing_behind ts) (after names t) rest) (λ more end. found (t then more) end))
+
   unfoldable pub externals_by : Tree → List Token → Answer Forest → Answer Forest
   externals_by t [] deeper = found (one t) []
   externals_by t (next ∷ rest) deeper = and_then deeper (λ more end. found (t then more) end)
@@ -637,6 +683,7 @@ module _ (d : ℕ) (r : Reader) where
   rows_in enumerators names ts = listed_in_braces enumerator_in (suc (length ts)) names ts
   rows_in parameters names ts = listed parameter_in after_parameter (suc (length ts)) names ts
   rows_in block_items names ts = items_in (suc (length ts)) names ts
+  rows_in groups names ts = groups_in (suc (length ts)) at_first names ts
   rows_in arguments names ts = arguments_in names ts
   rows_in optional_length names ts = length_in names ts
 

@@ -105,34 +105,42 @@ says_type t = says_type_by t.label.kind t.label.text
 abbrev pub entry : List ℕ → Bool → List Entry
 entry name is_typedef = record { name = name; is_typedef = is_typedef } ∷ []
 
--- what a node declares in the scope that it stands in, where this is what its kids declare there. Blocks, `for`
--- statements and parameters with their bodies are scopes of their own; members and tags declare nothing here
-abbrev pub entries_by : SynKind → List ℕ → Forest → List Entry → List Entry
-entries_by kind.Block text kids inner = []
-entries_by kind.For text kids inner = []
-entries_by kind.Param text kids inner = []
-entries_by kind.Enumer text kids inner = inner ++ entry text false
-entries_by kind.Function text kids inner = inner ++ entry (name_of (behind_first kids)) false
-entries_by other text kids inner = inner
+-- what a node declares in the scope that it stands in, behind specs that say `typedef` or do not, where `first` is what the
+-- first of its kids declares there and `later` is what the others do. C99 6.2.1: blocks, `for` statements, and parameters with
+-- their bodies are scopes of their own; the scope of a name begins right behind its declarator, and that of an enumerator behind
+-- all of it. The braces of a `switch` are one too, behind its expression, and no other part of an `if`, a loop or a `switch` is,
+-- unlike 6.8.4 and 6.8.5. Members and tags declare nothing here
+abbrev pub entries_by : SynKind → List ℕ → Bool → Forest → List Entry → List Entry → List Entry
+entries_by kind.Block text is_typedef kids first later = []
+entries_by kind.For text is_typedef kids first later = []
+entries_by kind.Param text is_typedef kids first later = []
+entries_by kind.Switch text is_typedef kids first later = first
+entries_by kind.InitDecl text is_typedef kids first later = (first ++ entry (name_of kids) is_typedef) ++ later
+entries_by kind.Enumer text is_typedef kids first later = (first ++ later) ++ entry text false
+entries_by kind.Function text is_typedef kids first later = (first ++ later) ++ entry (name_of (behind_first kids)) false
+entries_by other text is_typedef kids first later = first ++ later
 
--- what an initialized declarator declares right behind the first of its kids: a typedef name where the specs before it say so
-abbrev pub own_entries : SynKind → Bool → Forest → List Entry
-own_entries kind.InitDecl is_typedef kids = entry (name_of kids) is_typedef
-own_entries other is_typedef kids = []
-
--- the specs of a declaration say `typedef`
+-- the kids stand behind the specs of a declaration that say `typedef`
 abbrev pub declares_types : SynKind → Forest → Bool
 declares_types kind.Declaration kids = says_typedef kids
 declares_types other kids = false
 
--- what trees declare, behind specs that say `typedef` or do not; and right behind the first of them this more
-abbrev pub entries_with : List Entry → Bool → Forest → List Entry
-entries_with more is_typedef none = more
-entries_with more is_typedef (tree label kids rest) =
-    entries_by label.kind label.text kids (entries_with (own_entries label.kind is_typedef kids) (declares_types label.kind kids) kids) ++ (more ++ entries_with [] is_typedef rest)
+abbrev mutual
+  -- what the first of trees declares, behind specs that say `typedef` or do not
+  pub first_entries : Bool → Forest → List Entry
+  first_entries is_typedef none = []
+  first_entries is_typedef (tree label kids rest) =
+      let types = declares_types label.kind kids in
+      entries_by label.kind label.text is_typedef kids (first_entries types kids) (later_entries types kids)
 
+  -- what the others declare
+  pub later_entries : Bool → Forest → List Entry
+  later_entries is_typedef none = []
+  later_entries is_typedef (tree label kids rest) = first_entries is_typedef rest ++ later_entries is_typedef rest
+
+-- what trees declare
 abbrev pub entries_behind : Bool → Forest → List Entry
-entries_behind is_typedef ts = entries_with [] is_typedef ts
+entries_behind is_typedef ts = first_entries is_typedef ts ++ later_entries is_typedef ts
 
 abbrev pub entries : Tree → List Entry
 entries t = entries_behind false (one t)

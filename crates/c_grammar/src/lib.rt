@@ -7,7 +7,8 @@
 // the tokens from one list on, up to a rest, and of the tree that they have. Whether an identifier is a
 // typedef name is read from the scopes before the part; the scopes behind it are a function of its tree
 // (`specs/Scopes.antt`). `specs/Reading.antt` reads trees with a budget for their height. It serves the
-// laws; contracts on trees name the derivation and heights alone.
+// laws; contracts on trees name the derivation and heights alone. `specs/Checkable.antt` has the tables
+// that the checker is given: those of derived trees within the limit of heights.
 //
 // The theorem, on `one_tree`: two trees of one token list are equal. It rests on what `derived_is_found`
 // rests on: what is derived is read within each budget that its height is in.
@@ -27,8 +28,9 @@
 // the tokens before its place and, unless it is too deep, on the token at the place.
 // `proofs/Completion*.antt`: least completions. `proofs/Derived.antt` derives short lists where a rule is
 // easy to get wrong; `proofs/Refused.antt` says of parts what they cannot begin with and which trees they
-// cannot have; `proofs/NoTrees.antt` has short units without a tree, `proofs/FaultPlaces.antt` places of
-// faults in short units.
+// cannot have; `proofs/SwitchKids.antt` says how labels and statements stand in a `switch`.
+// `proofs/Examples.antt` has short parts and their trees, for scopes and `switch`, `proofs/NoTrees.antt`
+// short units without a tree, `proofs/FaultPlaces.antt` places of faults in short units.
 //
 // Source: C99 6.5 to 6.9 and A.2, without what docs/DECISIONS.md leaves out; chains that grow to the left
 // are read as loops, as in recursive descent (Aho and others, Compilers, 4.3 and 4.4).

@@ -11,13 +11,13 @@ use Rattle.c_grammar.specs.Vocabulary.{start_of}
 use Rattle.c_grammar.specs.Scopes.{Names, opened}
 use Rattle.c_grammar.specs.Derivation.{ends_open, ends_open_by, last_ends_open}
 use Rattle.c_grammar.specs.Answers.{Answer, Ahead, found, wrong, and_then, fit, expect, ahead}
-use Rattle.c_grammar.specs.Reading.{Reader, Rows, below, rows_in, body_by, statement_in, statement_by, expression_statement_in, keyword_by, if_in, while_in, do_in, for_in, for_behind, return_in, begins_with_mark, begins_with_mark_by, behind_one}
+use Rattle.c_grammar.specs.Reading.{Reader, Rows, below, rows_in, body_by, statement_in, statement_by, expression_statement_in, keyword_by, if_in, while_in, do_in, for_in, for_behind, switch_in, return_in, begins_with_mark, begins_with_mark_by, behind_one}
 use Rattle.c_grammar.proofs.SoundSteps.{IsAhead, is_nothing, is_mark, is_word, is_integer, is_character, is_string, ahead_is, mark_split}
 use Rattle.c_parts.specs.declared.budget.Stop.{Stop}
 use Rattle.c_parts.specs.declared.budget.Stop.TheVariants as stop
 use Rattle.c_parser.specs.declared.parser.Parser.{Parser}
 use Rattle.c_parser.specs.Gives.{OpensBrace, PassesBrace, Stops}
-use Rattle.c_parser.specs.Steps.{body_at, block_at, items_of, empty_of, keyword_of, if_of, while_of, do_of, for_of, return_of, jump_of}
+use Rattle.c_parser.specs.Steps.{body_at, block_at, items_of, empty_of, keyword_of, if_of, while_of, do_of, for_of, return_of, switch_of, jump_of}
 use Rattle.c_parser.proofs.ExpressionLaws.{ahead_mark, some_ahead_mark}
 use Rattle.c_parser.proofs.Tokens.{ahead_word}
 use Rattle.c_parser.proofs.Spans.{row_inside}
@@ -82,7 +82,7 @@ module _ (d : ℕ) (r : Reader) (names : Names) (ts : List Token) (t : Token) (f
       ap (statement_by d r names ts) (ahead_mark Semicolon ts s.0 s.1) ∙ ap (λ (n : ℕ). empty_of d n names ts) (sym (ap start_of s.1) ∙ ap start_of first)
 
   pub statement_word : (text : List ℕ) → t.kind ≡ token.Word text → statement_in d r names ts ≡ keyword_of d r text t.start names ts
-  unfolding statement_in statement_by keyword_by if_in while_in do_in for_in for_behind return_in
+  unfolding statement_in statement_by keyword_by if_in while_in do_in for_in for_behind switch_in return_in
   statement_word text k = ap (statement_by d r names ts) (ahead_word ts t text first k)
 
   pub statement_other : begins_with_mark LeftBrace ts ≡ false → begins_with_mark Semicolon ts ≡ false → ((text : List ℕ) → t.kind ≡ token.Word text → ⊥)
@@ -147,7 +147,13 @@ module _ (d : ℕ) (r : Reader) (text : List ℕ) (start : ℕ) (names : Names) 
               keyword_continue e = not_chosen _ _ _ no_if ∙ not_chosen _ _ _ no_while ∙ not_chosen _ _ _ no_do ∙ not_chosen _ _ _ no_for ∙ not_chosen _ _ _ no_return
                   ∙ not_chosen _ _ _ no_break ∙ chosen _ _ _ e
 
-              pub keyword_none : bytes_eq text (codes "continue") ≡ false → keyword_of d r text start names ts ≡ expression_statement_in d r names ts
-              unfolding keyword_by
-              keyword_none e = not_chosen _ _ _ no_if ∙ not_chosen _ _ _ no_while ∙ not_chosen _ _ _ no_do ∙ not_chosen _ _ _ no_for ∙ not_chosen _ _ _ no_return
-                  ∙ not_chosen _ _ _ no_break ∙ not_chosen _ _ _ e
+              module _ (no_continue : bytes_eq text (codes "continue") ≡ false) where
+                pub keyword_switch : bytes_eq text (codes "switch") ≡ true → keyword_of d r text start names ts ≡ switch_of d r start names ts
+                unfolding keyword_by
+                keyword_switch e = not_chosen _ _ _ no_if ∙ not_chosen _ _ _ no_while ∙ not_chosen _ _ _ no_do ∙ not_chosen _ _ _ no_for ∙ not_chosen _ _ _ no_return
+                    ∙ not_chosen _ _ _ no_break ∙ not_chosen _ _ _ no_continue ∙ chosen _ _ _ e
+
+                pub keyword_none : bytes_eq text (codes "switch") ≡ false → keyword_of d r text start names ts ≡ expression_statement_in d r names ts
+                unfolding keyword_by
+                keyword_none e = not_chosen _ _ _ no_if ∙ not_chosen _ _ _ no_while ∙ not_chosen _ _ _ no_do ∙ not_chosen _ _ _ no_for ∙ not_chosen _ _ _ no_return
+                    ∙ not_chosen _ _ _ no_break ∙ not_chosen _ _ _ no_continue ∙ not_chosen _ _ _ e

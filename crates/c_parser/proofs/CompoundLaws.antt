@@ -65,7 +65,7 @@ closed_then p x go =
 
 -- ---- conditions
 
-condition_then : (d : ℕ) (r : Reader) (names : Names) (ts : List Token) (go : Tree → List Token → Answer Tree)
+pub condition_then : (d : ℕ) (r : Reader) (names : Names) (ts : List Token) (go : Tree → List Token → Answer Tree)
     → in_parentheses_then d r names ts go ≡ and_then (condition_of r names ts) go
 unfolding in_parentheses_then
 condition_then d r names ts go = sym (

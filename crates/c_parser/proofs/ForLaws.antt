@@ -5,7 +5,7 @@ use Rattle.c_lexer.specs.declared.token.Punct.TheVariants.{LeftParenthesis, Righ
 use Rattle.c_syntax.specs.declared.kind.SynKind.{SynKind}
 use Rattle.c_syntax.specs.declared.kind.SynKind.TheVariants as kind
 use Rattle.c_syntax.specs.Trees.{Tree, Forest, ◌then◌, one, two, three, plain_node}
-use Rattle.c_grammar.specs.Scopes.{Names, add, after, entries, entries_by, entries_behind, entries_with, own_entries, declares_types, opened}
+use Rattle.c_grammar.specs.Scopes.{Names, add, after, entries, entries_by, entries_behind, first_entries, later_entries, declares_types, opened}
 use Rattle.c_grammar.specs.Answers.{Answer, found, and_then, expect}
 use Rattle.c_grammar.specs.Reading.{Reader, Goal, below, level, goal_in, statement_in, declaration_in, for_in, for_behind, begins_with_mark, begins_specifier, behind_one}
 use Rattle.c_parts.proofs.NameLaws.{add_joined, entries_then}
@@ -113,4 +113,4 @@ names_parts names names2 names3 names4 names5 f x y s first second third fourth 
 
 -- nothing of it is declared outside
 pub for_entries : (t : Tree) → t.label.kind ≡ kind.For → entries t ≡ []
-for_entries t k = ap (λ (k : SynKind). entries_by k t.label.text t.kids (entries_with (own_entries k false t.kids) (declares_types k t.kids) t.kids) ++ []) k
+for_entries t k = ap (λ (k : SynKind). entries_by k t.label.text false t.kids (first_entries (declares_types k t.kids) t.kids) (later_entries (declares_types k t.kids) t.kids) ++ []) k

@@ -31,6 +31,7 @@ pub mod Stopping
 pub mod SuffixLaws
 pub mod SuffixSteps
 pub mod Suffixes
+pub mod SwitchLaws
 pub mod Tokens
 pub mod UnitFaults
 pub mod UnitReadings

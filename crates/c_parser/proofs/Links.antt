@@ -56,7 +56,7 @@ pub fit_then : {T U : Type 0} (needed d : ℕ) (rest : List Token) (x : Answer T
 unfolding and_then fit
 fit_then needed d rest x go = if_then (nat_lt d needed) (deep rest) x go
 
-expect_then_by : (p : Punct) (ts : List Token) (f : List Token → Answer Tree) (go : Tree → List Token → Answer Tree) (h : Ahead)
+expect_then_by : {T U : Type 0} (p : Punct) (ts : List Token) (f : List Token → Answer T) (go : T → List Token → Answer U) (h : Ahead)
     → and_then (expect_by p ts f h) go ≡ expect_by p ts (λ end. and_then (f end) go) h
 unfolding and_then expect_by
 expect_then_by p ts f go nothing_ahead = refl
@@ -66,7 +66,7 @@ expect_then_by p ts f go (integer_ahead value type at rest) = refl
 expect_then_by p ts f go (character_ahead value at rest) = refl
 expect_then_by p ts f go (string_ahead bytes at rest) = refl
 
-pub expect_then : (p : Punct) (ts : List Token) (f : List Token → Answer Tree) (go : Tree → List Token → Answer Tree)
+pub expect_then : {T U : Type 0} (p : Punct) (ts : List Token) (f : List Token → Answer T) (go : T → List Token → Answer U)
     → and_then (expect p ts f) go ≡ expect p ts (λ end. and_then (f end) go)
 unfolding expect
 expect_then p ts f go = expect_then_by p ts f go (ahead ts)

@@ -4,7 +4,7 @@ use Rattle.std.proofs.lemmas.List.{append-nil}
 use Rattle.c_syntax.specs.declared.kind.SynKind.{SynKind}
 use Rattle.c_syntax.specs.declared.kind.SynKind.TheVariants as kind
 use Rattle.c_syntax.specs.Trees.{Tree, Forest, none, ◌then◌, one, two, three, plain_node}
-use Rattle.c_grammar.specs.Scopes.{Names, Entry, add, after, after_declarator, entry, entries, entries_by, entries_behind, entries_with, own_entries, declares_types, name_of, says_typedef}
+use Rattle.c_grammar.specs.Scopes.{Names, Entry, add, after, after_declarator, entry, entries, entries_by, entries_behind, first_entries, later_entries, declares_types, name_of, says_typedef}
 use Rattle.c_parts.proofs.NameLaws.{add_nothing, add_joined, entries_then}
 
 -- ---- scopes that are closed
@@ -15,14 +15,10 @@ drop_add (scope ∷ outer) more = refl
 
 -- ---- initialized declarators
 
--- what trees declare behind an own entry of the first of them
-first_more : (more : List Entry) (x : Tree) (ts : Forest) → entries_with more false (x then ts) ≡ entries x ++ (more ++ entries_with [] false ts)
-first_more more x ts = ap (λ (y : List Entry). y ++ (more ++ entries_with [] false ts)) (sym (append-nil _))
-
 init_kids : (is_typedef : Bool) (start : ℕ) (x : Tree) (ts : Forest)
     → entries_behind is_typedef (one (plain_node kind.InitDecl start (x then ts))) ≡ (entries x ++ entry (name_of (one x)) is_typedef) ++ entries_behind false ts
 init_kids is_typedef start x ts =
-    append-nil _ ∙ first_more (entry (name_of (one x)) is_typedef) x ts ∙ sym (append_assoc (entries x) (entry (name_of (one x)) is_typedef) (entries_behind false ts))
+    append-nil _ ∙ ap (λ (y : List Entry). (y ++ entry (name_of (one x)) is_typedef) ++ entries_behind false ts) (sym (append-nil _))
 
 -- behind the declarator alone
 pub names_declared : (names names2 names3 : Names) (is_typedef : Bool) (name : List ℕ) (x : Tree)
@@ -47,10 +43,10 @@ names_init_two names names2 names3 is_typedef start t x y t_is first second =
 
 -- specs declare the same behind any specs
 specs_entries : (is_typedef : Bool) (s : Tree) → s.label.kind ≡ kind.Specs → entries_behind is_typedef (one s) ≡ entries s
-specs_entries is_typedef s k = ap (λ (o : List Entry). entries_by s.label.kind s.label.text s.kids (entries_with o (declares_types s.label.kind s.kids) s.kids) ++ []) own
+specs_entries is_typedef s k = ap (λ (j : SynKind). own j is_typedef) k ∙ sym (ap (λ (j : SynKind). own j false) k)
   where
-    own : own_entries s.label.kind is_typedef s.kids ≡ own_entries s.label.kind false s.kids
-    own = ap (λ (k : SynKind). own_entries k is_typedef s.kids) k ∙ sym (ap (λ (k : SynKind). own_entries k false s.kids) k)
+    own : SynKind → Bool → List Entry
+    own j flag = entries_by j s.label.text flag s.kids (first_entries (declares_types s.label.kind s.kids) s.kids) (later_entries (declares_types s.label.kind s.kids) s.kids) ++ []
 
 pub names_declaration : (names names2 names3 : Names) (is_typedef : Bool) (start : ℕ) (t s : Tree) (xs : Forest)
     → s.label.kind ≡ kind.Specs → is_typedef ≡ says_typedef (one s) → t ≡ plain_node kind.Declaration start (s then xs)
@@ -69,7 +65,7 @@ names_specs_alone names names2 start t s k t_is first = names_declaration names 
 -- ---- functions
 
 pub block_entries : (b : Tree) → b.label.kind ≡ kind.Block → entries_behind false (one b) ≡ []
-block_entries b k = ap (λ (k : SynKind). entries_by k b.label.text b.kids (entries_with (own_entries k false b.kids) (declares_types k b.kids) b.kids) ++ []) k
+block_entries b k = ap (λ (k : SynKind). entries_by k b.label.text false b.kids (first_entries (declares_types k b.kids) b.kids) (later_entries (declares_types k b.kids) b.kids) ++ []) k
 
 function_entries : (start : ℕ) (s x b : Tree) → b.label.kind ≡ kind.Block
     → entries (plain_node kind.Function start (three s x b)) ≡ entries s ++ (entries x ++ entry (name_of (one x)) false)

@@ -6,7 +6,7 @@ use Rattle.c_lexer.specs.declared.token.Punct.TheVariants.{Comma}
 use Rattle.c_syntax.specs.declared.kind.SynKind.TheVariants as kind
 use Rattle.c_syntax.specs.Trees.{Tree, Forest, ◌then◌, one, two, forest_of, plain_node}
 use Rattle.c_syntax.specs.Tables.{stack_of}
-use Rattle.c_grammar.specs.Scopes.{Names, Entry, add, after, after_parameter, entries_by, entries_behind, entries_with, own_entries, declares_types, parameter_entries, entry, name_of}
+use Rattle.c_grammar.specs.Scopes.{Names, Entry, add, after, after_parameter, entries_by, entries_behind, first_entries, later_entries, declares_types, parameter_entries, entry, name_of}
 use Rattle.c_grammar.specs.Answers.{Answer}
 use Rattle.c_grammar.specs.Reading.{Reader, begins_with_mark, behind_one, listed, parameter_in}
 use Rattle.c_parts.specs.declared.budget.Stop.{Stop}
@@ -41,7 +41,7 @@ parameters_more names names0 before_it xs t e f =
     ∙ ap (add names0) (sym (parameter_entries_more xs t))
 
 parameter_silent : (t : Tree) → t.label.kind ≡ kind.Param → entries_behind false (one t) ≡ []
-parameter_silent t e = ap (λ k. entries_by k t.label.text t.kids (entries_with (own_entries k false t.kids) (declares_types k t.kids) t.kids) ++ []) e
+parameter_silent t e = ap (λ k. entries_by k t.label.text false t.kids (first_entries (declares_types k t.kids) t.kids) (later_entries (declares_types k t.kids) t.kids) ++ []) e
 
 -- parameters declare nothing around their own scope
 parameters_silent : (xs : List Tree) (t : Tree) → entries_behind false (forest_of xs) ≡ [] → t.label.kind ≡ kind.Param

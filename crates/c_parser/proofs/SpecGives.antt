@@ -5,7 +5,7 @@ use Rattle.c_syntax.specs.declared.kind.SynKind.{SynKind}
 use Rattle.c_syntax.specs.declared.kind.SynKind.TheVariants as kind
 use Rattle.c_syntax.specs.Trees.{Tree, Forest, none, text_node}
 use Rattle.c_grammar.specs.Vocabulary.{is_storage_word}
-use Rattle.c_grammar.specs.Scopes.{Names, add, after, entry, entries_by, entries_with, own_entries, declares_types, entries_behind, says_type_by, is_word_by}
+use Rattle.c_grammar.specs.Scopes.{Names, add, after, entry, entries_by, first_entries, later_entries, declares_types, entries_behind, says_type_by, is_word_by}
 use Rattle.c_parts.specs.declared.specifier.Specifier.{Specifier}
 use Rattle.c_parts.specs.declared.specifier.Tagged.{Tagged}
 use Rattle.c_parts.specs.declared.specifier.Tagged.TheVariants.{Struct, Enum}
@@ -64,7 +64,7 @@ tagged_says tagged t x is a b = record {
 -- ---- enumerators
 
 enumerator_entries : (k : SynKind) (text : List ℕ) (kids : Forest) → k ≡ kind.Enumer
-    → entries_by k text kids (entries_with (own_entries k false kids) (declares_types k kids) kids) ≡ entries_behind false kids ++ entry text false
+    → entries_by k text false kids (first_entries (declares_types k kids) kids) (later_entries (declares_types k kids) kids) ≡ entries_behind false kids ++ entry text false
 enumerator_entries k text kids e = rw e refl
 
 -- an enumerator declares its name behind its value

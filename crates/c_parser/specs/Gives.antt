@@ -259,6 +259,11 @@ abbrev pub GivesScoped : (Names → List Token → Answer Forest) → ℕ → Pa
 GivesScoped expected budget old new result =
     GivesRow itself_high (λ ts high. SaysParameters new ts) (expected old.names old.rest.now) (λ ts. old.names) (stack_of old.trees) budget (length old.rest.now) new result
 
+-- the groups of a `switch` in a scope of their own
+abbrev pub GivesGroups : (Names → List Token → Answer Forest) → ℕ → Parser → Parser → Result ℕ Stop → Type 0
+GivesGroups expected budget old new result =
+    GivesRow itself_high no_more (expected old.names old.rest.now) (λ ts. old.names) (stack_of old.trees) budget (length old.rest.now) new result
+
 -- ---- the unit
 
 pub record ReadsUnit (expected : Answer Tree) (p : Parser) (part : Part) : Type 0 where

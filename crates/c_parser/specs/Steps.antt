@@ -2,7 +2,7 @@
 use Rattle.std.specs.Prelude.{◌&&◌, ◌||◌, not, if◌then◌else◌, ⊤, ◌⊎◌, ◌<◌, ℕ, suc, Bool, true, false, List, length, codes}
 use Rattle.c_lexer.specs.declared.token.Token.{Token}
 use Rattle.c_lexer.specs.declared.token.Punct.{Punct}
-use Rattle.c_lexer.specs.declared.token.Punct.TheVariants.{Semicolon, LeftBracket, RightBracket, LeftParenthesis, RightParenthesis, Dot, Arrow, PlusPlus, MinusMinus}
+use Rattle.c_lexer.specs.declared.token.Punct.TheVariants.{Semicolon, Colon, LeftBracket, RightBracket, LeftParenthesis, RightParenthesis, RightBrace, Dot, Arrow, PlusPlus, MinusMinus}
 use Rattle.c_lexer.specs.Dump.{mark_text}
 use Rattle.c_syntax.specs.declared.kind.SynKind.{SynKind}
 use Rattle.c_syntax.specs.declared.kind.SynKind.TheVariants as kind
@@ -10,7 +10,10 @@ use Rattle.c_syntax.specs.Trees.{Tree, Forest, none, ◌then◌, one, two, three
 use Rattle.c_grammar.specs.Vocabulary.{is_assignment, is_unary_operator, level_of, Place}
 use Rattle.c_grammar.specs.Scopes.{Names, after, after_declarator, opened, in_body}
 use Rattle.c_grammar.specs.Derivation.{start, ends_open}
+use Rattle.c_grammar.specs.Derivation as derivation
 use Rattle.c_grammar.specs.Answers.{Answer, found, wrong, and_then, fit, Ahead, mark_ahead, string_ahead, ahead, expect, expect_word, expect_identifier}
+use Rattle.c_parser.specs.declared.statement.Standing.{Standing}
+use Rattle.c_parser.specs.declared.statement.Standing.TheVariants as standing
 use Rattle.c_grammar.specs.Reading as reading
 use Rattle.c_grammar.specs.Reading.{
   Reader,
@@ -54,6 +57,7 @@ use Rattle.c_grammar.specs.Reading.{
   do_in,
   for_in,
   for_behind,
+  switch_in,
   return_in,
   in_parentheses_then,
 }
@@ -269,6 +273,17 @@ module _ (d : ℕ) (r : Reader) where
   abbrev pub return_of : ℕ → Names → List Token → Answer Tree
   return_of start names ts = fit 1 d (behind_one ts) (return_in d r names (place start) (behind_one ts))
 
+  abbrev pub switch_of : ℕ → Names → List Token → Answer Tree
+  switch_of start names ts = fit 2 d (behind_one ts) (switch_in d r names (place start) (behind_one ts))
+
+  -- the groups of a `switch` in a scope of their own, up to their closing brace
+  abbrev pub scoped_groups_of : Names → List Token → Answer Forest
+  scoped_groups_of names ts = and_then (rows_in d r Rows.groups (opened names) ts) (λ items behind. expect RightBrace behind (λ end. found items end))
+
+  abbrev pub case_of : ℕ → Names → List Token → Answer Tree
+  case_of start names ts = fit 2 d (behind_one ts) (and_then (r.tree_of Goal.conditional names (behind_one ts)) (λ x behind.
+      expect Colon behind (λ end. found (plain_node kind.Case start (one x)) end)))
+
 -- an `else` that is ahead belongs to the `if` that this statement ends
 abbrev pub takes_else : Bool → List Token → Bool
 takes_else ends_open ts = begins_with_word (codes "else") ts && not ends_open
@@ -311,3 +326,12 @@ abbrev pub is_jump : SynKind → Bool
 is_jump kind.Break = true
 is_jump kind.Continue = true
 is_jump other = false
+
+abbrev pub default_of : ℕ → ℕ → Names → List Token → Answer Tree
+default_of d start names ts = fit 1 d (behind_one ts) (expect Colon (behind_one ts) (λ end. found (plain_node kind.Default start none) end))
+
+-- a place among the groups of a `switch`
+abbrev pub standing_of : Standing → derivation.Standing
+standing_of standing.First = derivation.at_first
+standing_of standing.Label = derivation.behind_label
+standing_of standing.Statement = derivation.behind_statement

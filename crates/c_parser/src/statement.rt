@@ -1,16 +1,25 @@
 // Statements. C99 6.8.
 ghost use Rattle.std.specs.Prelude.{◌≡◌, ◌≤◌, ◌<◌, ◌^◌, true, false, suc, length};
 ghost use Rattle.c_grammar.specs.Reading.{below};
-ghost use Rattle.c_parser.specs.Gives.{GivesPart, GivesBody, GivesPartsOrNone, GivesStatement, GivesBranches, GivesFor, OpensBrace};
-ghost use Rattle.c_parser.specs.Steps.{body_at, block_at, items_of, item_of, keyword_of, if_of, then_of, while_of, do_of, for_of, for_parts_of, for_first_of, optional_before, condition_of, do_condition_of, return_of, empty_of, jump_of, is_jump, takes_else};
+ghost use Rattle.c_parser.specs.Gives.{GivesPart, GivesBody, GivesPartsOrNone, GivesGroups, GivesStatement, GivesBranches, GivesFor, OpensBrace};
+ghost use Rattle.c_parser.specs.Steps.{body_at, block_at, items_of, item_of, keyword_of, if_of, then_of, while_of, do_of, for_of, for_parts_of, for_first_of, optional_before, condition_of, do_condition_of, return_of, switch_of, scoped_groups_of, case_of, default_of, standing_of, empty_of, jump_of, is_jump, takes_else};
 ghost use Rattle.c_grammar.specs.Reading as reading;
 
 use crate::parser::Parser;
 use c_lexer::{Punct, TokenKind};
 use c_parts::{
-    Part, Statement, Stop, above, above_four, above_row, above_three, above_two, leaf, next_lower,
+    Part, Statement, Stop, above, above_first, above_four, above_row, above_three, above_two, leaf,
+    next_lower,
 };
 use c_syntax::SynKind;
+
+/// A place among the groups of a `switch`: the first one, or behind a label, or behind a statement.
+#[derive(Clone, Copy)]
+enum Standing {
+    First,
+    Label,
+    Statement,
+}
 
 // A statement that does not end in an `if` without an `else`.
 fn closed(part: Part) -> Statement
@@ -136,6 +145,9 @@ impl<'a> Parser<'a> {
         }
         if text == "continue" {
             return self.jump(SynKind::Continue, start, budget);
+        }
+        if text == "switch" {
+            return self.switch_statement(start, budget);
         }
         self.expression_statement(budget)
     }
@@ -304,6 +316,110 @@ impl<'a> Parser<'a> {
         self.enter(0, budget)?;
         self.expect(Punct::Semicolon)?;
         Ok(closed(leaf(&mut self.trees, kind, "", start)?))
+    }
+
+    // switch = "switch" "(" expr ")" "{" { group } "}"
+    #[cycle(statements)]
+    fn switch_statement(&mut self, start: usize, budget: usize) -> Result<Statement, Stop>
+        ensures { GivesStatement (switch_of budget (below budget) start) budget self.old self.new result }
+    {
+        let lower = self.enter(1, budget)?;
+        let value = self.condition(lower)?;
+        self.expect(Punct::LeftBrace)?;
+        let mark = self.trees.len();
+        let height = self.scoped_groups(lower)?;
+        let trees = &mut self.trees;
+        let part = above_first(trees, SynKind::Switch, start, value, mark, height)?;
+        Ok(closed(part))
+    }
+
+    // Groups in a scope of their own, up to their closing brace.
+    #[cycle(statements)]
+    fn scoped_groups(&mut self, budget: usize) -> Result<usize, Stop>
+        ensures { GivesGroups (scoped_groups_of budget (below budget)) budget self.old self.new result }
+    {
+        self.names.open()?;
+        let height = self.groups(budget)?;
+        self.expect(Punct::RightBrace)?;
+        self.names.close();
+        Ok(height)
+    }
+
+    // group = label { label } statement { statement }
+    #[cycle(statements)]
+    fn groups(&mut self, budget: usize) -> Result<usize, Stop>
+        ensures { GivesPartsOrNone (reading.rows_in budget (below budget) reading.groups) budget self.old self.new result }
+    {
+        let mut height = 0;
+        let mut standing = Standing::First;
+        while !self.ends_groups(standing) {
+            let behind = self.standing_behind();
+            height = self.group_item(budget)?.height.max(height);
+            standing = behind;
+        }
+        Ok(height)
+    }
+
+    // A label of a `switch` is ahead.
+    fn begins_label(&self) -> bool
+        ensures { result ≡ reading.begins_label self.now.rest.now }
+    {
+        self.at_word("case") || self.at_word("default")
+    }
+
+    // The groups of a `switch` end at this place.
+    fn ends_groups(&self, standing: Standing) -> bool
+        ensures { result ≡ reading.ends_groups (standing_of standing) self.now.rest.now }
+    {
+        match standing {
+            Standing::First => !self.begins_label(),
+            Standing::Label => false,
+            Standing::Statement => self.at_mark(Punct::RightBrace),
+        }
+    }
+
+    // The place behind the label or the statement that is ahead.
+    fn standing_behind(&self) -> Standing
+        ensures { standing_of result ≡ reading.standing_behind self.now.rest.now }
+    {
+        if self.begins_label() {
+            return Standing::Label;
+        }
+        Standing::Statement
+    }
+
+    // A label or a statement among the groups of a `switch`.
+    #[cycle(statements)]
+    fn group_item(&mut self, budget: usize) -> Result<Part, Stop>
+        ensures { GivesPart (reading.group_item_in budget (below budget)) budget self.old self.new result }
+    {
+        let start = self.start();
+        if self.at_word("case") {
+            return self.case_label(start, budget);
+        }
+        if self.at_word("default") {
+            return self.default_label(start, budget);
+        }
+        Ok(self.statement(budget)?.part)
+    }
+
+    // "case" cond ":"
+    fn case_label(&mut self, start: usize, budget: usize) -> Result<Part, Stop>
+        ensures { GivesPart (case_of budget (below budget) start) budget self.old self.new result }
+    {
+        let lower = self.enter(1, budget)?;
+        let value = self.conditional(lower)?;
+        self.expect(Punct::Colon)?;
+        above(&mut self.trees, SynKind::Case, "", start, value)
+    }
+
+    // "default" ":"
+    fn default_label(&mut self, start: usize, budget: usize) -> Result<Part, Stop>
+        ensures { GivesPart (default_of budget start) budget self.old self.new result }
+    {
+        self.enter(0, budget)?;
+        self.expect(Punct::Colon)?;
+        leaf(&mut self.trees, SynKind::Default, "", start)
     }
 
     // expr ";"

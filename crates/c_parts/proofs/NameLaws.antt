@@ -4,7 +4,7 @@ use Rattle.std.proofs.lemmas.List.{append-nil}
 use Rattle.c_syntax.specs.declared.kind.SynKind.{SynKind}
 use Rattle.c_syntax.specs.declared.kind.SynKind.TheVariants as kind
 use Rattle.c_syntax.specs.Trees.{Tree, Forest, none, ◌then◌, one, two, three, text_node, string_node, constant_node, forest_of}
-use Rattle.c_grammar.specs.Scopes.{Names, Entry, add, after, entries, entries_by, entries_behind, entries_with, own_entries, declares_types}
+use Rattle.c_grammar.specs.Scopes.{Names, Entry, add, after, entries, entries_by, entries_behind, first_entries, later_entries, declares_types}
 use Rattle.c_parts.specs.Nodes.{leaves_names, declares_nothing}
 
 -- ---- names and more names
@@ -20,9 +20,10 @@ add_joined (scope ∷ outer) a b = ap (λ (s : List Entry). s ∷ outer) (append
 -- ---- what a node declares
 
 node_entries : (k : SynKind) (text : List ℕ) (kids : Forest) (flag : Bool) → declares_nothing k ≡ true
-    → entries_by k text kids (entries_with (own_entries k flag kids) (declares_types k kids) kids) ≡ entries_behind false kids
+    → entries_by k text flag kids (first_entries (declares_types k kids) kids) (later_entries (declares_types k kids) kids) ≡ entries_behind false kids
 node_entries kind.Block text kids flag e = absurd (true≢false (sym e))
 node_entries kind.For text kids flag e = absurd (true≢false (sym e))
+node_entries kind.Switch text kids flag e = absurd (true≢false (sym e))
 node_entries kind.Param text kids flag e = absurd (true≢false (sym e))
 node_entries kind.Enumer text kids flag e = absurd (true≢false (sym e))
 node_entries kind.InitDecl text kids flag e = absurd (true≢false (sym e))
@@ -68,7 +69,7 @@ pub after_three : (names : Names) (k : SynKind) (text : List ℕ) (start : ℕ) 
 after_three names k text start x y z e =
     after_row names k text start x (two y z) e ∙ ap (add (after names x)) (entries_then false y (one z)) ∙ sym (add_joined (after names x) (entries y) (entries z))
 
-constant_entries : (k : SynKind) → leaves_names k ≡ true → entries_by k [] none (own_entries k false none) ≡ []
+constant_entries : (k : SynKind) → leaves_names k ≡ true → entries_by k [] false none [] [] ≡ []
 constant_entries kind.Enumer e = absurd (true≢false (sym e))
 constant_entries kind.InitDecl e = absurd (true≢false (sym e))
 constant_entries kind.Function e = absurd (true≢false (sym e))

@@ -14,6 +14,7 @@ leaves_names other = true
 abbrev pub declares_nothing : SynKind → Bool
 declares_nothing kind.Block = false
 declares_nothing kind.For = false
+declares_nothing kind.Switch = false
 declares_nothing kind.Param = false
 declares_nothing kind.Enumer = false
 declares_nothing kind.InitDecl = false

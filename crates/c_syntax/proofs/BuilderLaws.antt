@@ -1,12 +1,12 @@
 -- A table that grows by a node.
-use Rattle.std.proofs.Common.{◌≡◌, ◌≢◌, ℕ, zero, suc, ◌+◌, ◌-◌, ◌<◌, ◌≤◌, List, [], ◌∷◌, ◌++◌, length, take, drop, refl, sym, ap, ap₂, ◌∙◌, subst, arith, append_assoc, length-append, Some}
-use Rattle.std.specs.Prelude.{reverse, min}
-use Rattle.std.proofs.lemmas.List.{reverse-append, take-append-drop, length-drop, length-take, drop_at, take_at, append-nil}
+use Rattle.std.proofs.Common.{◌≡◌, ℕ, zero, suc, ◌+◌, ◌-◌, ◌≤◌, List, [], ◌∷◌, ◌++◌, length, take, drop, refl, sym, ap, ap₂, ◌∙◌, arith, append_assoc}
+use Rattle.std.specs.Prelude.{reverse}
+use Rattle.std.proofs.lemmas.List.{reverse-append, take-append-drop, length-drop, drop_at, take_at}
 use Rattle.std.proofs.Math.ListN.{get_or}
 use Rattle.c_syntax.specs.declared.label.Label.{Label}
 use Rattle.c_syntax.specs.declared.syntax.SynId.{SynId}
 use Rattle.c_syntax.specs.declared.syntax.SynNode.{SynNode}
-use Rattle.c_syntax.specs.Trees.{Tree, Forest, none, tree, ◌then◌, one, forest_of, height, max_height}
+use Rattle.c_syntax.specs.Trees.{Tree, Forest, none, tree, one, forest_of}
 use Rattle.c_syntax.specs.Tables.{size, roots, nodes, node_of, firsts, built, stack_of, table_of, IsBegun, IsTable, IsWhole}
 use Rattle.c_syntax.proofs.TreeLaws.{joined, forest_of-append, size-joined, roots-joined, nodes-joined, firsts-joined, length-nodes, length-stack}
 
@@ -137,12 +137,3 @@ module _ (table : List SynNode) (lowest : List ℕ) (ids : List SynId) (begun : 
 
 pub alone_whole : (table : List SynNode) (lowest : List ℕ) (ids : List SynId) → IsBegun table lowest ids → (t : Tree) → stack_of table ≡ t ∷ [] → table ≡ table_of t
 alone_whole table lowest ids begun t alone = begun.nodes_are ∙ ap (λ ts. nodes 0 (forest_of (reverse ts))) alone
-
-pub whole_table : (table : List SynNode) (lowest : List ℕ) (ids : List SynId) (high : ℕ) → IsBegun table lowest ids → IsWhole (stack_of table) high → IsTable table lowest high
-whole_table table lowest ids high begun whole = record {
-  of = whole.of;
-  whole = alone_whole table lowest ids begun whole.of whole.alone;
-  lowest_are = begun.lowest_are ∙ ap (λ ts. firsts 0 (forest_of (reverse ts))) whole.alone;
-  highest = whole.highest;
-  low = whole.low;
-}

@@ -7,7 +7,7 @@ use Rattle.c_syntax.specs.declared.label.Label.{Label}
 use Rattle.c_syntax.specs.declared.syntax.SynId.{SynId}
 use Rattle.c_syntax.specs.declared.syntax.SynNode.{SynNode}
 use Rattle.c_syntax.specs.Trees.{Tree, Forest, none, tree, one}
-use Rattle.c_syntax.specs.Tables.{size, roots, nodes, node_of, label_of, firsts, table_of, StandAll, no_ids, and_id, StandsFor}
+use Rattle.c_syntax.specs.Tables.{size, roots, nodes, node_of, label_of, firsts, table_of, StandAll, and_id, StandsFor}
 use Rattle.c_syntax.proofs.TreeLaws.{length-nodes, length-firsts}
 use Rattle.c_syntax.proofs.TextLaws.{ends, stand_within}
 
@@ -123,9 +123,6 @@ stand_alone table (id ∷ ids) (tree l k r) (tree m j s) a b =
     let kids : k ≡ j = stand_alone table p.0.kids k j p.3 (subst (λ (n : SynNode). StandAll table n.kids j) (sym same) q.3) in
     let rest : r ≡ s = stand_alone table ids r s p.4 q.4 in
     ap (λ (x : Label). tree x k r) label ∙ ap₂ (tree m) kids rest
-
-one_alone : (t u : Tree) → one t ≡ one u → size (one t) ≡ size (one u)
-one_alone t u e = ap size e
 
 -- the lowest ids of a table are those of the trees that its nodes are the roots of
 pub lowest_of : (whole : Tree) (id : SynId) (t : Tree) (v : ℕ) → id.number < length (table_of whole) → StandsFor (table_of whole) id t

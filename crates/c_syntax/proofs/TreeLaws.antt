@@ -1,10 +1,9 @@
 -- Laws of trees, their sizes and their tables.
-use Rattle.std.proofs.Common.{◌≡◌, ℕ, suc, ◌+◌, ◌≤◌, List, [], ◌∷◌, ◌++◌, length, refl, sym, ap, ◌∙◌, arith, append_assoc, length-append}
-use Rattle.std.specs.Prelude.{max, reverse}
+use Rattle.std.proofs.Common.{◌≡◌, ℕ, ◌+◌, List, [], ◌∷◌, ◌++◌, length, refl, sym, ap, ◌∙◌, arith, append_assoc, length-append}
+use Rattle.std.specs.Prelude.{reverse}
 use Rattle.std.proofs.lemmas.List.{length-reverse}
 use Rattle.c_syntax.specs.declared.syntax.SynId.{SynId}
-use Rattle.c_syntax.specs.declared.syntax.SynNode.{SynNode}
-use Rattle.c_syntax.specs.Trees.{Tree, Forest, none, tree, ◌then◌, one, forest_of, count}
+use Rattle.c_syntax.specs.Trees.{Tree, Forest, none, tree, ◌then◌, forest_of, count}
 use Rattle.c_syntax.specs.Tables.{size, roots, nodes, node_of, firsts}
 
 -- ---- forests one after another

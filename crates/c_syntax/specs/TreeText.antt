@@ -2,7 +2,7 @@
 use Rattle.std.specs.Prelude.{ℕ, ◌+◌, ◌*◌, List, [], ◌∷◌, ◌++◌, length, replicate, codes}
 use Rattle.std.specs.Fmt.{decimal}
 use Rattle.c_syntax.specs.declared.kind.SynKind.{SynKind}
-use Rattle.c_syntax.specs.declared.kind.SynKind.TheVariants.{Unit, Function, Declaration, InitDecl, Braces, Specs, Word, StructSpec, Member, EnumSpec, Enumer, Ident, Pointer, ArrayOf, Takes, Param, NoName, TypeName, Block, ExprStmt, Empty, If, While, Do, For, Break, Continue, Return, Paren, Int, Char, Str, Var, Unary, Post, Binary, Assign, Cond, Comma, Index, Call, Dot, Arrow, Cast, SizeExpr, SizeType}
+use Rattle.c_syntax.specs.declared.kind.SynKind.TheVariants.{Unit, Function, Declaration, InitDecl, Braces, Specs, Word, StructSpec, Member, EnumSpec, Enumer, Ident, Pointer, ArrayOf, Takes, Param, NoName, TypeName, Block, ExprStmt, Empty, If, While, Do, For, Break, Continue, Return, Switch, Case, Default, Paren, Int, Char, Str, Var, Unary, Post, Binary, Assign, Cond, Comma, Index, Call, Dot, Arrow, Cast, SizeExpr, SizeType}
 use Rattle.c_syntax.specs.declared.label.Label.{Label}
 use Rattle.c_syntax.specs.Trees.{Tree, Forest, none, tree}
 
@@ -36,6 +36,9 @@ kind_word For = codes "for"
 kind_word Break = codes "break"
 kind_word Continue = codes "continue"
 kind_word Return = codes "return"
+kind_word Switch = codes "switch"
+kind_word Case = codes "case"
+kind_word Default = codes "default"
 kind_word Paren = codes "paren"
 kind_word (Int type) = codes "int"
 kind_word Char = codes "char"

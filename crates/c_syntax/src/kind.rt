@@ -61,6 +61,11 @@ pub enum SynKind {
     Continue,
     /// The value, where there is one.
     Return,
+    /// The expression, then labels and statements.
+    Switch,
+    /// The constant.
+    Case,
+    Default,
     /// An expression, or a declarator, in parentheses.
     Paren,
     /// An integer constant, with its type.
@@ -127,6 +132,9 @@ pub fn kind_word(kind: SynKind) -> &'static str
         SynKind::Break => "break",
         SynKind::Continue => "continue",
         SynKind::Return => "return",
+        SynKind::Switch => "switch",
+        SynKind::Case => "case",
+        SynKind::Default => "default",
         SynKind::Paren => "paren",
         SynKind::Int(_) => "int",
         SynKind::Char => "char",

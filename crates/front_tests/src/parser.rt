@@ -163,8 +163,60 @@ fn expressions(rt: HostRuntime) -> Result<(), Fail> {
     Ok(())
 }
 
+// Statements with their trees.
+static STATEMENTS: [(&str, &str); 8] = [
+    ("switch(x){}", "switch(var x)"),
+    (
+        "switch(x){case 1:default:;}",
+        "switch(var x,case(int 1),default,empty)",
+    ),
+    (
+        "switch(x){case 1:;y;case 2:;}",
+        "switch(var x,case(int 1),empty,expr(var y),case(int 2),empty)",
+    ),
+    (
+        "switch(x){case 1:switch(y){default:break;}break;}",
+        "switch(var x,case(int 1),switch(var y,default,break),break)",
+    ),
+    (
+        "while(x)switch(y){default:continue;}",
+        "while(var x,switch(var y,default,continue))",
+    ),
+    (
+        "switch(x){case 1?2:3:;}",
+        "switch(var x,case(cond(int 1,int 2,int 3)),empty)",
+    ),
+    (
+        "if(x)switch(y){default:if(z);}else;",
+        "if(var x,switch(var y,default,if(var z,empty)),empty)",
+    ),
+    (
+        "switch(x){default:{int y;}}",
+        "switch(var x,default,block(declaration(specs(word int),initdecl(name y))))",
+    ),
+];
+
+// The statement is the only one of a function, and has this tree there.
+fn has_statement(alloc: Global, statement: &str, tree: &str) -> Result<bool, AllocError> {
+    let unit = joined(alloc, &["int f(){", statement, "}"])?;
+    let front = "unit(function(specs(word int),takes(name f),block(";
+    let wanted = joined(alloc, &[front, tree, ")))"])?;
+    match std::str::from_utf8(wanted.as_slice()) {
+        Ok(wanted) => Ok(has_tree(alloc, unit.as_slice(), wanted)),
+        Err(_) => Ok(false),
+    }
+}
+
+#[test]
+fn statements(rt: HostRuntime) -> Result<(), Fail> {
+    for (text, tree) in &STATEMENTS {
+        assert!(rt; has_statement(rt.alloc(), text, tree)?, "{text}");
+    }
+    Ok(())
+}
+
 // Units with their trees.
-static UNITS: [(&str, &str); 27] = [
+static UNITS: [(&str, &str); 28] = [
     (
         "int x;",
         "unit(declaration(specs(word int),initdecl(name x)))",
@@ -282,6 +334,10 @@ static UNITS: [(&str, &str); 27] = [
         "unit(function(specs(word int),takes(name f),block(for(var a,var b,empty,break),return)))",
     ),
     (
+        "typedef int f(){f;}",
+        "unit(function(specs(word typedef,word int),takes(name f),block(expr(var f))))",
+    ),
+    (
         "static int f(void){;{}}",
         "unit(function(specs(word static,word int),takes(name f),block(empty,block)))",
     ),
@@ -292,6 +348,111 @@ fn units(rt: HostRuntime) {
     for (text, tree) in &UNITS {
         assert!(rt; has_tree(rt.alloc(), text.as_bytes(), tree), "{text}");
     }
+}
+
+// Units behind `typedef int t;`, with the trees of what stands behind it. Letters stand for what comes again and again:
+// E for an expression that declares `t`, S for `(t)-1` where `t` is no typedef name, C for the same where it is one.
+static SCOPED: [(&str, &str); 14] = [
+    (
+        "int f(){switch(E){default:(t)-1;}(t)-1;}",
+        "function(specs(word int),takes(name f),block(switch(E,default,expr(S)),expr(S)))",
+    ),
+    (
+        "int f(){switch(x){case E:(t)-1;}(t)-1;}",
+        "function(specs(word int),takes(name f),block(switch(var x,case(E),expr(S)),expr(C)))",
+    ),
+    (
+        "int f(){switch(x){default:E;(t)-1;}(t)-1;}",
+        "function(specs(word int),takes(name f),block(switch(var x,default,expr(E),expr(S)),expr(C)))",
+    ),
+    (
+        "int f(){int t=(t)-1;}",
+        "function(specs(word int),takes(name f),block(declaration(specs(word int),initdecl(name t,S))))",
+    ),
+    (
+        "int f(){int t,a[(t)-1];}",
+        "function(specs(word int),takes(name f),block(declaration(specs(word int),initdecl(name t),\
+         initdecl(array(name a,S)))))",
+    ),
+    (
+        "int f(int t,int a[(t)-1]);",
+        "declaration(specs(word int),initdecl(takes(name f,param(specs(word int),name t),\
+         param(specs(word int),array(name a,S)))))",
+    ),
+    (
+        "int f(int t),a[(t)-1];",
+        "declaration(specs(word int),initdecl(takes(name f,param(specs(word int),name t))),\
+         initdecl(array(name a,C)))",
+    ),
+    (
+        "int f(int g(int t),int a[(t)-1]);",
+        "declaration(specs(word int),initdecl(takes(name f,param(specs(word int),\
+         takes(name g,param(specs(word int),name t))),param(specs(word int),array(name a,C)))))",
+    ),
+    (
+        "int f(int t,int g(int a[(t)-1]));",
+        "declaration(specs(word int),initdecl(takes(name f,param(specs(word int),name t),\
+         param(specs(word int),takes(name g,param(specs(word int),array(name a,S)))))))",
+    ),
+    (
+        "typedef int u;int (*f(int t))(int u){(t)-1;(u)-1;}",
+        "declaration(specs(word typedef,word int),initdecl(name u)),function(specs(word int),\
+         takes(paren(pointer(takes(name f,param(specs(word int),name t)))),param(specs(word int),name u)),\
+         block(expr(S),expr(cast(typename(specs(word u),noname),unary -(int 1)))))",
+    ),
+    (
+        "typedef int u;int (*f(int u))(int t){(t)-1;(u)-1;}",
+        "declaration(specs(word typedef,word int),initdecl(name u)),function(specs(word int),\
+         takes(paren(pointer(takes(name f,param(specs(word int),name u)))),param(specs(word int),name t)),\
+         block(expr(C),expr(binary -(paren(var u),int 1))))",
+    ),
+    (
+        "int f(){if(E);(t)-1;}",
+        "function(specs(word int),takes(name f),block(if(E,empty),expr(S)))",
+    ),
+    (
+        "int f(){for(;E;);(t)-1;}",
+        "function(specs(word int),takes(name f),block(for(empty,E,empty,empty),expr(C)))",
+    ),
+    (
+        "int f(){struct{int t;};(t)-1;}",
+        "function(specs(word int),takes(name f),block(declaration(specs(struct(member(specs(word int),\
+         name t)))),expr(C)))",
+    ),
+];
+
+// The text with the letters of `SCOPED` spelled out, behind this front.
+fn spelled(alloc: Global, front: &str, text: &str, e: &str) -> Result<Bytes, AllocError> {
+    let mut whole = joined(alloc, &[front])?;
+    for byte in text.as_bytes() {
+        match *byte {
+            b'E' => whole.push_all(e.as_bytes())?,
+            b'S' => whole.push_all(b"binary -(paren(var t),int 1)")?,
+            b'C' => whole.push_all(b"cast(typename(specs(word t),noname),unary -(int 1))")?,
+            _ => whole.push_all(&[*byte])?,
+        }
+    }
+    Ok(whole)
+}
+
+fn has_scopes(alloc: Global, text: &str, tree: &str) -> Result<bool, AllocError> {
+    let unit = spelled(alloc, "typedef int t;", text, "sizeof(enum{t})")?;
+    let front = "unit(declaration(specs(word typedef,word int),initdecl(name t)),";
+    let e = "sizetype(typename(specs(enum(enumer t)),noname))";
+    let mut wanted = spelled(alloc, front, tree, e)?;
+    wanted.push_all(b")")?;
+    match std::str::from_utf8(wanted.as_slice()) {
+        Ok(wanted) => Ok(has_tree(alloc, unit.as_slice(), wanted)),
+        Err(_) => Ok(false),
+    }
+}
+
+#[test]
+fn scopes_of_names(rt: HostRuntime) -> Result<(), Fail> {
+    for (text, tree) in &SCOPED {
+        assert!(rt; has_scopes(rt.alloc(), text, tree)?, "{text}");
+    }
+    Ok(())
 }
 
 #[test]
@@ -344,6 +505,51 @@ fn faults_of_reading(rt: HostRuntime) {
         let fault = ParseFault::Syntax { at: *at };
         assert!(rt; has_fault(rt.alloc(), text.as_bytes(), fault), "{text}");
     }
+}
+
+// Statements of `int f ( ) { S }` that have no tree there, each with the byte of the token that cannot stand there.
+static REFUSED: [(&str, usize); 18] = [
+    ("default : ;", 12),
+    ("case 1 : ;", 12),
+    ("switch x { }", 19),
+    ("switch ( ) { }", 21),
+    ("switch ( x ) case 1 : ;", 25),
+    ("switch ( x ) { ; case 1 : ; }", 27),
+    ("switch ( x ) { break ; }", 27),
+    ("switch ( x ) { int y ; case 1 : ; }", 27),
+    ("switch ( x ) { case : ; }", 32),
+    ("switch ( x ) { case 1 , 2 : ; }", 34),
+    ("switch ( x ) { default 1 : ; }", 35),
+    ("switch ( x ) { case 1 : }", 36),
+    ("switch ( x ) { case 1 : int y ; }", 36),
+    ("switch ( x ) { case 1 : ; int y ; }", 38),
+    ("switch ( x ) { case 1 : { case 2 : ; } }", 38),
+    ("switch ( x ) { case 1 : ;", 39),
+    ("switch ( x ) { case 1 : if ( y ) case 2 : ; }", 45),
+    ("switch ( x ) { case 1 : ; default : }", 48),
+];
+
+// The text is refused at the token that begins at this byte, or at its end.
+fn is_refused_at(alloc: Global, text: &[u8], byte: usize) -> bool {
+    let Ok(tokens) = lex(alloc, text) else {
+        return false;
+    };
+    let Err(ParseFault::Syntax { at }) = parse(alloc, &tokens) else {
+        return false;
+    };
+    match tokens.as_slice().get(at) {
+        Some(token) => token.start == byte,
+        None => text.len() == byte,
+    }
+}
+
+#[test]
+fn refused_statements(rt: HostRuntime) -> Result<(), Fail> {
+    for (text, byte) in &REFUSED {
+        let unit = joined(rt.alloc(), &["int f ( ) { ", text, " }"])?;
+        assert!(rt; is_refused_at(rt.alloc(), unit.as_slice(), *byte), "{text}");
+    }
+    Ok(())
 }
 
 // `int main(void){return ((0));}`, with so many pairs of parentheses.

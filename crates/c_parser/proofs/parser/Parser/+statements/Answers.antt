@@ -1,7 +1,7 @@
 -- Statements.
-use Rattle.std.proofs.Common.{Ok, ◌≡◌, ◌≤◌, ◌<◌, true, false, suc, length, [], refl, sym, ap, ◌∙◌, arith}
+use Rattle.std.proofs.Common.{ℕ, Ok, ◌≡◌, ◌≤◌, ◌<◌, drop, true, false, suc, length, [], refl, sym, ap, ◌∙◌, arith}
 use Rattle.std.specs.Prelude.{⊤}
-use Rattle.c_lexer.specs.declared.token.Punct.TheVariants.{LeftParenthesis, RightBrace}
+use Rattle.c_lexer.specs.declared.token.Punct.TheVariants.{LeftParenthesis, LeftBrace, RightBrace}
 use Rattle.c_lexer.specs.declared.token.TokenKind.TheVariants as token
 use Rattle.c_syntax.specs.declared.kind.SynKind.TheVariants as kind
 use Rattle.c_syntax.specs.Trees.{◌then◌, three, plain_node, forest_of, height}
@@ -11,17 +11,18 @@ use Rattle.c_grammar.specs.Derivation.{ends_open}
 use Rattle.c_grammar.specs.Answers.{found}
 use Rattle.c_grammar.specs.Reading.{below, level}
 use Rattle.c_parts.specs.Says.{IsStatement}
-use Rattle.c_parser.specs.Gives.{itself, itself_high, no_more, SaysFor}
-use Rattle.c_parser.specs.Steps.{body_at}
+use Rattle.c_parser.specs.Gives.{itself, nothing_more, itself_high, no_more, behind_all, SaysFor}
+use Rattle.c_parser.specs.Steps.{body_at, case_of, default_of, standing_of}
 use Rattle.c_parser.proofs.Stopping.{gives_stop, gives_row_stop, stops_before, found_then, passed, stops_same}
 use Rattle.c_parser.proofs.Tokens.{shorter_behind, behind_one_shorter}
 use Rattle.c_parser.proofs.Made.{made, two_made, three_made, gives_same, keeps_same, keeps_then, pushed_on, read_from, row_from, trees_on}
 use Rattle.c_parser.proofs.Spans.{memory_stop, mark_stops, gives_within, gives_kept, scope_read, statement_read, statement_barred}
 use Rattle.c_parser.proofs.ItemRows.{item_row_start, item_row_stops, item_row_next, item_row_end}
-use Rattle.c_parser.proofs.NamesBehind.{block_entries}
-use Rattle.c_parser.proofs.BlockLaws.{brace_stops, body_inside, block_closed, statement_brace, statement_semicolon, statement_word, statement_other, statement_nothing, keyword_if, keyword_while, keyword_do, keyword_for, keyword_return, keyword_break, keyword_continue, keyword_none}
+use Rattle.c_parser.proofs.NamesBehind.{drop_add, block_entries}
+use Rattle.c_parser.proofs.BlockLaws.{brace_stops, body_inside, block_closed, statement_brace, statement_semicolon, statement_word, statement_other, statement_nothing, keyword_if, keyword_while, keyword_do, keyword_for, keyword_return, keyword_break, keyword_continue, keyword_switch, keyword_none}
 use Rattle.c_parser.proofs.CompoundLaws.{if_shape, if_entered, then_inside, alone_inside, else_inside, while_shape, while_entered, while_body, do_shape, do_entered, do_end}
 use Rattle.c_parser.proofs.ForLaws.{for_open, for_inside, for_inner, parts_second, parts_third, parts_body, names_parts, for_entries}
+use Rattle.c_parser.proofs.SwitchLaws.{switch_shape, switch_entered, switch_behind, switch_open, switch_names, scoped_open, group_row_start, group_row_stops, group_row_next, group_row_end, item_case, item_default, item_statement}
 use Rattle.c_parser.proofs.parser.Parser.+statements.Goals as goal
 
 -- ---- blocks
@@ -339,6 +340,141 @@ for_parts-returns t c =
     f.read.names_are x.read.names_are y.read.names_are s.read.names_are)
     (record { kind_is = refl; open_is = s.said }) low fewer
 
+-- ---- `switch`
+
+pub switch_statement-returns-in_err-lower : goal.switch_statement-returns-in_err-lower
+switch_statement-returns-in_err-lower t c = statement_barred _ 1 c.args.budget _ _ (switch_shape c.args.budget (below c.args.budget) c.args.start c.args.self.now.names c.args.self.now.rest.now)
+    _ _ _ _ _ _ c.in_err-lower.field-0.0 c.from_residual.ensures c.in_err-lower.ensures.lower c.in_err-lower.ensures.rest
+
+pub switch_statement-returns-in_err-value : goal.switch_statement-returns-in_err-value
+switch_statement-returns-in_err-value t c =
+    gives_stop (λ s. s.part) IsStatement _ _ _ _ _ _ _ c.in_err-value.field-0.0 c.from_residual-in_err-value.ensures (
+    stops_before _ _ _ _ c.in_err-value.field-0.0 (switch_entered c.args.budget c.in_ok-lower.lower c.in_ok-lower.ensures.lower c.args.start c.args.self.now c.enter.new.self c.in_ok-lower.ensures.kept c.in_ok-lower.ensures.rest) c.in_err-value.ensures)
+
+pub switch_statement-returns-in_err-expect : goal.switch_statement-returns-in_err-expect
+switch_statement-returns-in_err-expect t c =
+    let entered = c.in_ok-lower.ensures in
+    let x = c.in_ok-value.ensures in
+    gives_stop (λ s. s.part) IsStatement _ _ _ _ _ _ _ c.in_err-expect.field-0.0 c.from_residual-in_err-expect.ensures (
+    mark_stops _ LeftBrace c.condition.new.self c.expect.new.self _ _
+    (switch_behind c.args.budget c.in_ok-lower.lower entered.lower c.args.start c.args.self.now c.enter.new.self c.condition.new.self x.tree entered.kept entered.rest x.found_is x.read.names_are)
+    c.in_err-expect.ensures)
+
+pub switch_statement-returns-in_err-height : goal.switch_statement-returns-in_err-height
+switch_statement-returns-in_err-height t c =
+    let entered = c.in_ok-lower.ensures in
+    let x = c.in_ok-value.ensures in
+    gives_stop (λ s. s.part) IsStatement _ _ _ _ _ _ _ c.in_err-height.field-0.0 c.from_residual-in_err-height.ensures (
+    stops_before _ _ _ _ c.in_err-height.field-0.0
+    (switch_open c.args.budget c.in_ok-lower.lower entered.lower c.args.start c.args.self.now c.enter.new.self c.condition.new.self x.tree entered.kept entered.rest x.found_is x.read.names_are
+    c.expect.new.self c.in_ok-expect.ensures) c.in_err-height.ensures)
+
+pub switch_statement-returns : goal.switch_statement-returns
+switch_statement-returns t c =
+    let before = c.args.self.now in
+    let mid = c.condition.new.self in
+    let inside = c.expect.new.self in
+    let entered = c.in_ok-lower.ensures in
+    let given = c.in_ok-value.ensures in
+    let x = read_from _ _ _ _ before c.enter.new.self mid _ entered.kept given in
+    let passes = c.in_ok-expect.ensures in
+    let row = c.in_ok-height.ensures in
+    let items = forest_of row.trees in
+    let node = plain_node kind.Switch c.args.start (x.tree then items) in
+    let behind = shorter_behind before.rest.now c.enter.new.self.rest.now mid.rest.now entered.rest given.shorter in
+    let fewer : length c.scoped_groups.new.self.rest.now < length before.rest.now = let a = passes.shorter in let b = row.shorter in omega (arith, behind, a, b) in
+    statement_read _ _ _ _ _ _ c.in_ok-part.part false c.closed.result c.closed.ensures (
+    made (λ t. false ≡ ends_open t) _ (after before.names) node (stack_of before.trees) c.args.budget (length before.rest.now) _ (Ok c.in_ok-part.part)
+    (c.in_ok-part.ensures.tree x.tree row.trees (stack_of before.trees) (stack_of inside.trees) c.len-mark.ensures
+    (pushed_on x.tree (stack_of before.trees) _ mid inside passes.kept x.read.pushed) row.read.pushed)
+    (switch_open c.args.budget c.in_ok-lower.lower entered.lower c.args.start before c.enter.new.self mid x.tree entered.kept entered.rest x.found_is
+    (x.read.names_are ∙ ap (λ (n : Names). after n x.tree) (sym entered.kept.names_are)) inside passes
+    ∙ found_then _ _ items _ row.found_is)
+    (row.read.names_are ∙ passes.kept.names_are ∙ x.read.names_are ∙ sym (switch_names before.names c.args.start x.tree items)) refl
+    (let h = x.read.pushed.height_is in let i = row.read.pushed.height_is in let l = x.low in let m = row.low in let n = entered.lower.next in omega (arith, h, i, l, m, n)) fewer)
+
+pub scoped_groups-returns-in_err-height : goal.scoped_groups-returns-in_err-height
+scoped_groups-returns-in_err-height t c =
+    gives_row_stop itself_high no_more _ _ _ _ _ _ _ c.in_err-height.field-0.0 c.from_residual-in_err-height.ensures (
+    stops_before _ _ _ _ c.in_err-height.field-0.0 (scoped_open c.args.budget c.args.self.now.names _ c.args.self.now.rest.now c.in_ok-open.ensures.ok) c.in_err-height.ensures)
+
+pub scoped_groups-returns-in_err-expect : goal.scoped_groups-returns-in_err-expect
+scoped_groups-returns-in_err-expect t c =
+    let row = c.in_ok-height.ensures in
+    gives_row_stop itself_high no_more _ _ _ _ _ _ _ c.in_err-expect.field-0.0 c.from_residual-in_err-expect.ensures (
+    mark_stops _ RightBrace c.groups.new.self c.expect.new.self _ _
+    (scoped_open c.args.budget c.args.self.now.names _ c.args.self.now.rest.now c.in_ok-open.ensures.ok ∙ found_then _ _ (forest_of row.trees) _ row.found_is) c.in_err-expect.ensures)
+
+pub scoped_groups-returns : goal.scoped_groups-returns
+scoped_groups-returns t c =
+    let row = c.in_ok-height.ensures in
+    let close = c.in_ok-expect.ensures in
+    let items = forest_of row.trees in
+    record {
+      trees = row.trees;
+      found_is = scoped_open c.args.budget c.args.self.now.names _ c.args.self.now.rest.now c.in_ok-open.ensures.ok ∙ found_then _ _ items _ row.found_is
+          ∙ passed RightBrace c.groups.new.self c.expect.new.self _ close;
+      read = record {
+        names_are = c.close.ensures ∙ ap (drop 1) (close.kept.names_are ∙ row.read.names_are ∙ ap (λ (n : Names). behind_all n items) c.in_ok-open.ensures.ok)
+            ∙ drop_add (opened c.args.self.now.names) (entries_behind false items);
+        pushed = trees_on row.trees (stack_of c.args.self.now.trees) c.in_ok-height.height c.groups.new.self c.expect.new.self close.kept row.read.pushed;
+      };
+      said = tt;
+      low = row.low;
+      shorter = let a = row.shorter in let b = close.shorter in omega (arith, a, b);
+    }
+
+pub groups-loop-self-init : goal.groups-loop-self-init
+groups-loop-self-init t c =
+    group_row_start c.args.budget (below c.args.budget) c.args.self.now.names _ (stack_of c.args.self.now.trees) c.args.budget (suc (length c.args.self.now.rest.now)) c.args.self.now refl refl refl
+    (omega arith)
+
+pub groups-returns-in_err-group_item : goal.groups-returns-in_err-group_item
+groups-returns-in_err-group_item t c =
+    gives_row_stop itself_high no_more _ _ _ _ _ _ _ c.in_err-group_item.field-0.0 c.from_residual.ensures (
+    group_row_stops c.args.budget (below c.args.budget) c.args.self.now.names _ (stack_of c.args.self.now.trees) c.args.budget (suc (length c.args.self.now.rest.now)) c.loop-self.self
+    (standing_of c.loop-self.standing) c.loop-self.height c.loop-self.invariant (sym c.ends_groups.ensures ∙ c.loop-self-test.true) _ c.in_err-group_item.field-0.0 c.in_err-group_item.ensures)
+
+pub groups-loop-self-preserved : goal.groups-loop-self-preserved
+groups-loop-self-preserved t c =
+    group_row_next c.args.budget (below c.args.budget) c.args.self.now.names _ (stack_of c.args.self.now.trees) c.args.budget (suc (length c.args.self.now.rest.now)) c.loop-self.self
+    (standing_of c.loop-self.standing) c.loop-self.height c.loop-self.invariant (sym c.ends_groups.ensures ∙ c.loop-self-test.true) _ c.group_item.new.self c.in_ok-group_item.field-0
+    c.in_ok-group_item.ensures _ c.max-height.ensures _ c.standing_behind-behind.ensures
+
+pub groups-returns : goal.groups-returns
+groups-returns t c =
+    group_row_end c.args.budget (below c.args.budget) c.args.self.now.names _ (stack_of c.args.self.now.trees) c.args.budget (suc (length c.args.self.now.rest.now)) c.loop-self.self
+    (standing_of c.loop-self.standing) c.loop-self.height c.loop-self.invariant (λ ts. ⊤) (sym c.ends_groups.ensures ∙ c.loop-self-test.false) tt
+
+pub group_item-returns-then-at_word : goal.group_item-returns-then-at_word
+group_item-returns-then-at_word t c = gives_same itself nothing_more _ _ _ _ _ _ _ _ (
+    item_case c.args.budget (below c.args.budget) c.args.self.now.names c.args.self.now.rest.now (sym c.at_word.ensures ∙ c.if-at_word.true)
+    ∙ ap (λ (n : ℕ). case_of c.args.budget (below c.args.budget) n c.args.self.now.names c.args.self.now.rest.now) (sym c.start-start.ensures)) c.case_label.ensures
+
+pub group_item-returns-then-at_word-2 : goal.group_item-returns-then-at_word-2
+group_item-returns-then-at_word-2 t c = gives_same itself nothing_more _ _ _ _ _ _ _ _ (
+    item_default c.args.budget (below c.args.budget) c.args.self.now.names c.args.self.now.rest.now (sym c.at_word.ensures ∙ c.if-at_word.false) (sym c.at_word-2.ensures ∙ c.if-at_word-2.true)
+    ∙ ap (λ (n : ℕ). default_of c.args.budget n c.args.self.now.names c.args.self.now.rest.now) (sym c.start-start.ensures)) c.default_label.ensures
+
+pub group_item-returns-in_err-statement : goal.group_item-returns-in_err-statement
+group_item-returns-in_err-statement t c = gives_stop itself nothing_more _ _ _ _ _ _ _ c.in_err-statement.field-0.0 c.from_residual.ensures (
+    stops_same _ _ _ c.in_err-statement.field-0.0
+    (item_statement c.args.budget (below c.args.budget) c.args.self.now.names c.args.self.now.rest.now (sym c.at_word.ensures ∙ c.if-at_word.false) (sym c.at_word-2.ensures ∙ c.if-at_word-2.false))
+    c.in_err-statement.ensures)
+
+pub group_item-returns : goal.group_item-returns
+group_item-returns t c =
+    let s = c.in_ok-statement.ensures in
+    record {
+      tree = s.tree;
+      found_is = item_statement c.args.budget (below c.args.budget) c.args.self.now.names c.args.self.now.rest.now (sym c.at_word.ensures ∙ c.if-at_word.false) (sym c.at_word-2.ensures ∙ c.if-at_word-2.false)
+          ∙ s.found_is;
+      read = s.read;
+      said = tt;
+      low = s.low;
+      shorter = s.shorter;
+    }
+
 -- ---- by the first token
 
 pub keyword-returns-then-eq : goal.keyword-returns-then-eq
@@ -369,9 +505,13 @@ pub keyword-returns-then-eq-7 : goal.keyword-returns-then-eq-7
 keyword-returns-then-eq-7 t c = gives_same (λ s. s.part) IsStatement _ _ _ _ _ _ _ _
     (keyword_continue c.args.budget (below c.args.budget) c.args.text.now c.args.start c.args.self.now.names c.args.self.now.rest.now (sym c.eq.ensures ∙ c.if-eq.false) (sym c.eq-2.ensures ∙ c.if-eq-2.false) (sym c.eq-3.ensures ∙ c.if-eq-3.false) (sym c.eq-4.ensures ∙ c.if-eq-4.false) (sym c.eq-5.ensures ∙ c.if-eq-5.false) (sym c.eq-6.ensures ∙ c.if-eq-6.false) (sym c.eq-7.ensures ∙ c.if-eq-7.true)) c.jump-then-eq-7.ensures
 
+pub keyword-returns-then-eq-8 : goal.keyword-returns-then-eq-8
+keyword-returns-then-eq-8 t c = gives_same (λ s. s.part) IsStatement _ _ _ _ _ _ _ _
+    (keyword_switch c.args.budget (below c.args.budget) c.args.text.now c.args.start c.args.self.now.names c.args.self.now.rest.now (sym c.eq.ensures ∙ c.if-eq.false) (sym c.eq-2.ensures ∙ c.if-eq-2.false) (sym c.eq-3.ensures ∙ c.if-eq-3.false) (sym c.eq-4.ensures ∙ c.if-eq-4.false) (sym c.eq-5.ensures ∙ c.if-eq-5.false) (sym c.eq-6.ensures ∙ c.if-eq-6.false) (sym c.eq-7.ensures ∙ c.if-eq-7.false) (sym c.eq-8.ensures ∙ c.if-eq-8.true)) c.switch_statement.ensures
+
 pub keyword-returns : goal.keyword-returns
 keyword-returns t c = gives_same (λ s. s.part) IsStatement _ _ _ _ _ _ _ _
-    (keyword_none c.args.budget (below c.args.budget) c.args.text.now c.args.start c.args.self.now.names c.args.self.now.rest.now (sym c.eq.ensures ∙ c.if-eq.false) (sym c.eq-2.ensures ∙ c.if-eq-2.false) (sym c.eq-3.ensures ∙ c.if-eq-3.false) (sym c.eq-4.ensures ∙ c.if-eq-4.false) (sym c.eq-5.ensures ∙ c.if-eq-5.false) (sym c.eq-6.ensures ∙ c.if-eq-6.false) (sym c.eq-7.ensures ∙ c.if-eq-7.false)) c.expression_statement.ensures
+    (keyword_none c.args.budget (below c.args.budget) c.args.text.now c.args.start c.args.self.now.names c.args.self.now.rest.now (sym c.eq.ensures ∙ c.if-eq.false) (sym c.eq-2.ensures ∙ c.if-eq-2.false) (sym c.eq-3.ensures ∙ c.if-eq-3.false) (sym c.eq-4.ensures ∙ c.if-eq-4.false) (sym c.eq-5.ensures ∙ c.if-eq-5.false) (sym c.eq-6.ensures ∙ c.if-eq-6.false) (sym c.eq-7.ensures ∙ c.if-eq-7.false) (sym c.eq-8.ensures ∙ c.if-eq-8.false)) c.expression_statement.ensures
 
 pub statement-returns-in_default : goal.statement-returns-in_default
 statement-returns-in_default t c = gives_same (λ s. s.part) IsStatement _ _ _ _ _ _ _ _

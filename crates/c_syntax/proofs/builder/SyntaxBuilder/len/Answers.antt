@@ -1,4 +1,4 @@
-use Rattle.std.proofs.Common.{sym, ap, ◌∙◌, length}
+use Rattle.std.proofs.Common.{ap, ◌∙◌, length}
 use Rattle.c_syntax.specs.Tables.{stack_of}
 use Rattle.c_syntax.proofs.TreeLaws.{length-stack}
 use Rattle.c_syntax.proofs.builder.SyntaxBuilder.len.Goals as goal

@@ -2,7 +2,7 @@ use Rattle.std.proofs.Common.{◌≡◌, ◌<◌, Some, sym, ap, ◌∙◌, subs
 use Rattle.std.specs.Prelude.{slice_get}
 use Rattle.std.proofs.lemmas.Option.{slice_get-get_or}
 use Rattle.c_syntax.specs.Trees.{one}
-use Rattle.c_syntax.specs.Tables.{firsts, StandsFor, table_of}
+use Rattle.c_syntax.specs.Tables.{firsts, StandsFor}
 use Rattle.c_syntax.proofs.TreeLaws.{length-nodes, length-firsts}
 use Rattle.c_syntax.proofs.FirstLaws.{lowest_of}
 use Rattle.c_syntax.proofs.syntax.Syntax.first.Goals as goal

@@ -1,0 +1,9 @@
+pub mod Forms
+pub mod InOrder
+pub mod Sizes
+pub mod Tables
+pub mod Kept
+pub mod Every
+pub mod Placing
+pub mod WellMade
+pub mod Writing
