@@ -5,3 +5,5 @@ pub mod Placing
 pub mod StoredFiles
 pub mod Takings
 pub mod WordVectors
+pub mod Shifts
+pub mod OperationVectors

@@ -3,3 +3,4 @@ pub mod Taking
 pub mod Memory
 pub mod Regions
 pub mod Words
+pub mod Operations

@@ -4,6 +4,7 @@ use Rattle.std.specs.Option.{option_map, IsSomeAnd}
 use Rattle.std.specs.Ordering.{nat_cmp}
 use Rattle.std.specs.Cmp.Lexicographic.{slice_cmp}
 use Rattle.std.specs.FinMap.{FinMap, get}
+use Rattle.std.specs.Io.KnownBytes.{Appends}
 
 -- the greatest count of faults, the end of a `u64`
 abbrev pub last_count : ℕ
@@ -44,3 +45,7 @@ gained told bytes = option_map (λ before. before ++ bytes) told
 -- a sink took a front of these bytes, and not all of them; of a sink that tells nothing this says that there were some
 abbrev pub GainsFront : Option (List ℕ) → Option (List ℕ) → List ℕ → Type 0
 GainsFront old new bytes = (n : ℕ) × (n < length bytes) × (new ≡ gained old (take n bytes))
+
+-- a writer of the host, where its bytes are known, gained a front of these; none and all are fronts too
+abbrev pub GrowsByFront : Option (List ℕ) → Option (List ℕ) → List ℕ → Type 0
+GrowsByFront old new bytes = (n : ℕ) × (n ≤ length bytes) × Appends old new (take n bytes)

@@ -1,4 +1,4 @@
--- What `take` appends, by its answer.
+-- What `take` appends, by its answer, as the contracts of `Files` and its objects say it.
 use Rattle.std.specs.Prelude.{◌≡◌, ℕ, ◌<◌, ◌≤◌, ◌+◌, ◌++◌, List, length, take, Option, Some, None, Result, Ok, Err, MatchOption}
 use Rattle.std.specs.FinMap.{get}
 use Rattle.std.specs.Io.KnownBytes.{Consumes, IsAtEnd}
@@ -51,6 +51,8 @@ counted (Ok done) faults = faults
 counted (Err TooLong) faults = faults
 counted (Err Failed) faults = next_count faults
 counted (Err OutOfMemory) faults = faults
+
+-- The rest is of the function inside `StdFiles::take` that goes on to the end of a reader; no public contract names it.
 
 -- a front of what a reader gave was appended; what came after it was lost
 abbrev pub AppendsRead : Option (List ℕ) → Option (List ℕ) → List ℕ → List ℕ → Type 0

@@ -1,7 +1,7 @@
 // The real files and sinks. They tell no contents, so of these the traits ask only lengths and counts.
 ghost use Rattle.std.specs.Prelude.{◌≡◌, ◌≤◌, ◌<◌, ◌⊎◌, Err, IfOk, OnOk, OnErr, MatchResult, length, take};
 ghost use Rattle.std.specs.Io.KnownBytes.{Appends};
-ghost use Rattle.cp_base.specs.Outside.{Rose, Lacks, last_count, next_count, gained, untold_files, untold_bytes};
+ghost use Rattle.cp_base.specs.Outside.{Rose, Lacks, last_count, next_count, gained, GrowsByFront, untold_files, untold_bytes};
 ghost use Rattle.cp_base.specs.Taking.{AppendsFor, AppendsRead, AppendsRest, TakesTold, counted};
 
 use crate::bytes::Bytes;
@@ -115,6 +115,9 @@ impl<W: Write + Drop> Sink for StdSink<W> {
         ensures ok { IfOk result (λ n. untold_bytes ≡ gained untold_bytes (take n piece.now)) }
         ensures err { OnErr result (untold_bytes ≡ untold_bytes) }
         ensures failed { OnErr result (Rose self.old.faults self.new.faults) }
+        // What the writer itself gained, where its bytes are known.
+        ensures wrote { IfOk result (λ n. Appends (W.contents self.old.writer) (W.contents self.new.writer) (take n piece.now)) }
+        ensures left { OnErr result (GrowsByFront (W.contents self.old.writer) (W.contents self.new.writer) piece.now) }
         ensures raised { MatchResult result (λ _. self.new.faults ≡ self.old.faults) (λ _. self.new.faults ≡ next_count self.old.faults) }
     {
         match write_some(&mut self.writer, piece) {
@@ -132,6 +135,7 @@ fn write_some<W: Write>(writer: &mut W, piece: &[u8]) -> Result<usize, Failed>
     ensures within { IfOk result (λ n. n ≤ length piece.now) }
     ensures moves { IfOk result (λ n. 0 < length piece.now → 0 < n) }
     ensures ok { IfOk result (λ n. Appends (W.contents writer.old) (W.contents writer.new) (take n piece.now)) }
+    ensures err { OnErr result (GrowsByFront (W.contents writer.old) (W.contents writer.new) piece.now) }
 {
     for _ in 0..u64::MAX {
         match writer.write(piece) {
