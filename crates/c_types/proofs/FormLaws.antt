@@ -4,7 +4,7 @@ use Rattle.std.proofs.Common.{◌≡◌, ℕ, List, [], ◌∷◌, ◌++◌, Opt
 use denote.Hole.Carrier.{hidden}
 use Rattle.c_types.specs.declared.tree.COp.{COp}
 use Rattle.c_types.specs.declared.tree.Kind.{Kind}
-use Rattle.c_types.specs.declared.tree.To.{To}
+use Rattle.cp_base.specs.declared.op.To.{To}
 use Rattle.c_types.specs.declared.tree.Expr.{Expr}
 use Rattle.c_types.specs.declared.tree.Expr.TheVariants as expr
 use Rattle.c_types.specs.declared.tree.Expr.TheBlock.{hidden-the_row-Expr-0, hidden-the_row-Expr-1, shape-the_row-Expr-1}

@@ -7,7 +7,7 @@ use mathlib.Core.Former.{Count, none_left, one_more, arity, this}
 use Rattle.sqlite_items.specs.formers.items.Items as items
 use Rattle.c_types.specs.declared.tree.COp.{COp}
 use Rattle.c_types.specs.declared.tree.Kind.{Kind}
-use Rattle.c_types.specs.declared.tree.To.{To}
+use Rattle.cp_base.specs.declared.op.To.{To}
 use Rattle.c_types.specs.declared.tree.Expr.{Expr, Row_of-Expr, end_of-Expr, more_of-Expr}
 use Rattle.c_types.specs.declared.tree.Expr as expr
 use Rattle.c_types.specs.declared.tree.Stmt.{Stmt, Row_of-Group, end_of-Group, more_of-Group}

@@ -1,5 +1,5 @@
 // The typed tree: a unit whose types are gone, as objects, functions, statements and expressions over words.
-use cp_base::{Items, Name};
+use cp_base::{Items, Name, To};
 use sqlite_items::Boxed;
 
 /// A whole unit. The functions stand in the order of their definitions.
@@ -66,16 +66,6 @@ pub enum Kind {
     U16,
     I16,
     W32,
-}
-
-/// What a value is converted to. `Truth` is 0 for 0, else 1.
-#[derive(Clone, Copy, Debug, PartialEq, Eq)]
-pub enum To {
-    U8,
-    I8,
-    U16,
-    I16,
-    Truth,
 }
 
 /// An operator; S is for signed operands, U for unsigned ones.
