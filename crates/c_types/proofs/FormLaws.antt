@@ -3,7 +3,7 @@
 use Rattle.std.proofs.Common.{◌≡◌, ℕ, List, [], ◌∷◌, ◌++◌, Option, refl, ap, ap₂, ◌∙◌}
 use denote.Hole.Carrier.{hidden}
 use Rattle.c_types.specs.declared.tree.COp.{COp}
-use Rattle.c_types.specs.declared.tree.Kind.{Kind}
+use Rattle.cp_base.specs.declared.op.Kind.{Kind}
 use Rattle.cp_base.specs.declared.op.To.{To}
 use Rattle.c_types.specs.declared.tree.Expr.{Expr}
 use Rattle.c_types.specs.declared.tree.Expr.TheVariants as expr

@@ -6,7 +6,7 @@ use Rattle.std.specs.Prelude.{ℕ, Bool, List, [], ◌∷◌, Option}
 use mathlib.Core.Former.{Count, none_left, one_more, arity, this}
 use Rattle.sqlite_items.specs.formers.items.Items as items
 use Rattle.c_types.specs.declared.tree.COp.{COp}
-use Rattle.c_types.specs.declared.tree.Kind.{Kind}
+use Rattle.cp_base.specs.declared.op.Kind.{Kind}
 use Rattle.cp_base.specs.declared.op.To.{To}
 use Rattle.c_types.specs.declared.tree.Expr.{Expr, Row_of-Expr, end_of-Expr, more_of-Expr}
 use Rattle.c_types.specs.declared.tree.Expr as expr

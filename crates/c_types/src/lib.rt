@@ -34,12 +34,12 @@ mod tree;
 mod types;
 
 pub use area::image;
-pub use cp_base::To;
+pub use cp_base::{Kind, To};
 pub use in_order::Offsets;
 pub use kind::{MAX_SIZE, Measure, StructId, TypeId, TypeKind, TypeList};
 pub use placing::{Places, place};
 pub use tree::{
-    COp, Cell, CellValue, Cells, Expr, Exprs, Func, Funcs, Group, Groups, Kind, Object, Objects,
-    Stmt, Stmts, Unit, Words,
+    COp, Cell, CellValue, Cells, Expr, Exprs, Func, Funcs, Group, Groups, Object, Objects, Stmt,
+    Stmts, Unit, Words,
 };
 pub use types::{TypeFault, Types};

@@ -1,5 +1,5 @@
 // The typed tree: a unit whose types are gone, as objects, functions, statements and expressions over words.
-use cp_base::{Items, Name, To};
+use cp_base::{Items, Kind, Name, To};
 use sqlite_items::Boxed;
 
 /// A whole unit. The functions stand in the order of their definitions.
@@ -56,16 +56,6 @@ pub struct Func {
     /// It gives a value.
     pub gives: bool,
     pub body: Stmt,
-}
-
-/// The width of an access, and how a narrow value is extended.
-#[derive(Clone, Copy, Debug, PartialEq, Eq)]
-pub enum Kind {
-    U8,
-    I8,
-    U16,
-    I16,
-    W32,
 }
 
 /// An operator; S is for signed operands, U for unsigned ones.

@@ -22,8 +22,8 @@
 // A `Layout` is where a program of the RV32IM machine is in the one address space of 2^32 bytes (The
 // RISC-V Instruction Set Manual, Volume I, 1.4); `specs/Regions.antt` has the rule over addresses.
 // `specs/Words.antt` defines the operations on words of 32 bits (Volume I, 2.4, 2.6 and 7), for the crates
-// above. `apply` is the operations that the nodes of a graph have on words (`specs/Operations.antt`), and
-// `RunFault` why a run of a program was cut off.
+// above. `apply` is the operations that the nodes of a graph have on words (`specs/Operations.antt`). `Kind` is
+// the width of an access, and `RunFault` why a run of a program was cut off.
 #![tactic(auto)]
 
 mod bytes;
@@ -43,7 +43,7 @@ pub use layout::Layout;
 pub use memory_files::MemFiles;
 pub use memory_sink::MemSink;
 pub use name::{Name, Names};
-pub use op::{Op, Relation, To, apply};
+pub use op::{Kind, Op, Relation, To, apply};
 pub use run_fault::RunFault;
 pub use sink::{Failed, Sink, put_all, put_number};
 pub use sqlite_items::Items;

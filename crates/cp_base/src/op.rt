@@ -1,7 +1,17 @@
-// The operations of the graphs on words.
+// The operations on words that typed trees, graphs and block code share, with the kinds of accesses to memory.
 ghost use Rattle.std.specs.Prelude.{◌≡◌, ◌<◌, ◌^◌};
 ghost use Rattle.cp_base.specs.Operations.{applied, compared, converted};
 ghost use Rattle.cp_base.specs.Words.{quotient_signed, quotient_unsigned, remainder_signed, remainder_unsigned, shift_right_signed, less_signed, sign_extended};
+
+/// The width of an access, and how a narrow value is extended.
+#[derive(Clone, Copy, Debug, PartialEq, Eq)]
+pub enum Kind {
+    U8,
+    I8,
+    U16,
+    I16,
+    W32,
+}
 
 /// How two words compare, as numbers with a sign (S) or without (U).
 #[derive(Clone, Copy, Debug, PartialEq, Eq)]
