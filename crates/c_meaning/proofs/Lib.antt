@@ -1,0 +1,2 @@
+pub mod OperatorRows
+pub mod Rows

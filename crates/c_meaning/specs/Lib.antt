@@ -1,0 +1,4 @@
+pub mod Meaning
+pub mod Operators
+pub mod Runs
+pub mod Steps
