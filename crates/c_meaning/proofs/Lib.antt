@@ -1,2 +1,5 @@
+pub mod Agreement
 pub mod OperatorRows
 pub mod Rows
+pub mod RunLaws
+pub mod Walk

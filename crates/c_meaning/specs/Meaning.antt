@@ -2,14 +2,14 @@
 --
 -- The definitions recurse on the tree. A return to a loop's head and a call of a function go on with `again`, the
 -- meaning of statements with one turn less, so a run recurses on the turns and then on the tree.
-use Rattle.std.specs.Prelude.{ℕ, zero, suc, ◌-◌, ◌%◌, Bool, true, false, ◌==◌, nat_lt, if◌then◌else◌, List, [], ◌∷◌, ◌++◌, length, map, replicate, codes, Option, Some, None, slice_get}
+use Rattle.std.specs.Prelude.{ℕ, zero, suc, ◌-◌, ◌%◌, Bool, true, ◌==◌, nat_lt, if◌then◌else◌, List, [], ◌∷◌, ◌++◌, length, map, replicate, codes, Option, Some, None, slice_get}
 use Rattle.std.specs.Str.{bytes_eq}
 use Rattle.std.specs.List.{list_any}
 use mathlib.Core.Former.{Count}
 use Rattle.cp_base.specs.declared.op.To.TheVariants.{Truth}
 use Rattle.cp_base.specs.Operations.{converted}
 use Rattle.run_model.specs.declared.outcome.Outcome.TheVariants.{Running, Undefined, Deep}
-use Rattle.run_model.specs.Stores.{World, Store}
+use Rattle.run_model.specs.Stores.{World}
 use Rattle.c_types.specs.declared.tree.Expr.{Expr}
 use Rattle.c_types.specs.declared.tree.Stmt.{Stmt}
 use Rattle.c_types.specs.declared.tree.Group.{Group}
@@ -215,7 +215,11 @@ module _ (u : Whole) (w : World) (again : Stmt → Step Flow) where
     exec_from zero (a_group labels other n body gs) = exec_all body >>= (λ flow. if_normal flow (exec_from zero gs))
 
 module _ (u : Whole) (w : World) where
-  -- a statement from which the run goes on at most so many turns
-  unfoldable pub run : ℕ → Stmt → Step Flow
-  run zero s = exec u w (λ next. stop Running) s
-  run (suc turns) s = exec u w (run turns) s
+  -- how a statement goes on from a turn, where at most so many turns are left, that one among them
+  unfoldable pub at_turn : ℕ → Stmt → Step Flow
+  at_turn zero s = stop Running
+  at_turn (suc turns) s = exec u w (at_turn turns) s
+
+  -- a statement, where at most so many turns are left
+  abbrev pub run : ℕ → Stmt → Step Flow
+  run turns s = exec u w (at_turn turns) s

@@ -1,9 +1,9 @@
 -- A run of a unit.
-use Rattle.std.specs.Prelude.{ℕ, zero, suc, ◌%◌, Bool, if◌then◌else◌, List, [], ◌∷◌, Option, Some, None}
+use Rattle.std.specs.Prelude.{ℕ, zero, suc, ◌%◌, if◌then◌else◌, List, [], ◌∷◌, Option, Some, None}
 use Rattle.cp_base.specs.declared.layout.Layout.{Layout}
 use Rattle.run_model.specs.declared.outcome.Outcome.{Outcome}
 use Rattle.run_model.specs.declared.outcome.Outcome.TheVariants.{Ended, Undefined, Deep}
-use Rattle.run_model.specs.Stores.{World, Store, first_store}
+use Rattle.run_model.specs.Stores.{World, first_store}
 use Rattle.c_types.specs.declared.tree.Func.{Func}
 use Rattle.c_types.specs.declared.tree.Unit.{Unit as Whole}
 use Rattle.c_types.specs.Placing.{image}

@@ -21,6 +21,11 @@ pub data Result (A : Type 0) : Type 0 where
   Gives : A → State → Result A
   Stops : Outcome → Store → Result A
 
+-- the output up to there
+abbrev pub out_of : {A : Type 0} → Result A → List ℕ
+out_of (Gives a s) = s.store.out
+out_of (Stops outcome store) = store.out
+
 abbrev pub Step : Type 0 → Type 0
 Step A = State → Result A
 

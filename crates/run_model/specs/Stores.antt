@@ -1,5 +1,5 @@
 -- What a run is over, what it has at a moment, and how input and output change that.
-use Rattle.std.specs.Prelude.{ℕ, zero, suc, ◌+◌, ◌-◌, ◌%◌, ◌^◌, List, [], ◌∷◌, ◌++◌, Option, Some, None, slice_get}
+use Rattle.std.specs.Prelude.{◌≡◌, ℕ, zero, suc, ◌+◌, ◌-◌, ◌%◌, ◌^◌, List, [], ◌∷◌, ◌++◌, Option, Some, None, slice_get}
 
 -- the same for the whole run: the address of the first byte of the data, the input, and how many calls may be active
 -- at a time
@@ -45,3 +45,8 @@ after_write s word = record s { out = s.out ++ word % 256 ∷ [] }
 
 abbrev pub with_bytes : Store → List ℕ → Store
 with_bytes s bytes = record s { bytes = bytes }
+
+-- the second output begins with the first
+pub record IsPrefix (out longer : List ℕ) : Type 0 where
+  pub rest : List ℕ
+  pub is : longer ≡ out ++ rest
