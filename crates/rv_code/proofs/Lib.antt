@@ -1,3 +1,4 @@
+pub mod InstrTexts
 pub mod MachineVectors
 pub mod MainNumber
 pub mod MemoryLaws
@@ -7,5 +8,8 @@ pub mod RunLaws
 pub mod Runs
 pub mod Sizes
 pub mod Stands
+pub mod Splits
 pub mod StartLines
+pub mod Symbols
 pub mod UnitStands
+pub mod UnitTexts

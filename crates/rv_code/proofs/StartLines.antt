@@ -41,9 +41,25 @@ d93 = two 93 (lit≤ tt) (lit< tt) (lit< tt)
 d255 : decimal 255 ≡ codes "255"
 d255 = decimal_step 255 (lit≤ tt) (lit< tt) ∙ ap (λ ds. ds ++ 53 ∷ []) (two 25 (lit≤ tt) (lit< tt) (lit< tt))
 
+-- the bytes that are printed, around the address of the buffer byte
+abbrev pub entry_bytes : List ℕ
+entry_bytes = codes "\t.text\n\t.globl _start\n_start:\n\tlui t0, %hi(c_main)\n\tjalr ra, %lo(c_main)(t0)\n\taddi a7, zero, 93\n\tecall\n"
+
+abbrev pub getchar_front : List ℕ
+getchar_front = codes "c_getchar:\n\taddi a0, zero, 0\n"
+
+abbrev pub getchar_back : List ℕ
+getchar_back = codes "\taddi a2, zero, 1\n\taddi a7, zero, 63\n\tecall\n\tbge zero, a0, .Lend\n\tlbu a0, 0(a1)\n\tjalr zero, 0(ra)\n.Lend:\n\taddi a0, zero, -1\n\tjalr zero, 0(ra)\n"
+
+abbrev pub putchar_front : List ℕ
+putchar_front = codes "c_putchar:\n\tandi t1, a0, 255\n"
+
+abbrev pub putchar_back : List ℕ
+putchar_back = codes "\tsb t1, 0(a1)\n\taddi a0, zero, 1\n\taddi a2, zero, 1\n\taddi a7, zero, 64\n\tecall\n\taddi a0, t1, 0\n\tjalr zero, 0(ra)\n"
+
 -- the lines of the start, where `main` has its name
 pub entry_lines : (functions : List AsmFunction) (main : ℕ) → name_of (slice_get functions main) ≡ codes "main"
-    → codes "\t.text\n\t.globl _start\n_start:\n\tlui t0, %hi(c_main)\n\tjalr ra, %lo(c_main)(t0)\n\taddi a7, zero, 93\n\tecall\n" ≡ entry_text functions main
+    → entry_bytes ≡ entry_text functions main
 entry_lines functions main e = simp (e, d93)
 
 -- the end of a line, in the grouping of a line
@@ -66,20 +82,20 @@ among pre post buffer =
 
 -- the lines of the routine that reads, around these two
 pub getchar_lines : (buffer : ℕ)
-    → codes "c_getchar:\n\taddi a0, zero, 0\n" ++ (code_text [] (buffer_code buffer) ++ codes "\taddi a2, zero, 1\n\taddi a7, zero, 63\n\tecall\n\tbge zero, a0, .Lend\n\tlbu a0, 0(a1)\n\tjalr zero, 0(ra)\n.Lend:\n\taddi a0, zero, -1\n\tjalr zero, 0(ra)\n") ≡ getchar_text buffer
+    → getchar_front ++ (code_text [] (buffer_code buffer) ++ getchar_back) ≡ getchar_text buffer
 unfolding getchar_text
 getchar_lines buffer = around (code_text [] (buffer_code buffer)) ∙ ap (λ t. codes "c_getchar:\n" ++ (t ++ (instr_line (codes ".Lend") getchar_branch ++ (code_text [] getchar_byte ++ (codes ".Lend:\n" ++ code_text [] getchar_end))))) (sym (among (take 1 (getchar_asks buffer)) (drop 3 (getchar_asks buffer)) buffer))
   where
-    around : (x : List ℕ) → codes "c_getchar:\n\taddi a0, zero, 0\n" ++ (x ++ codes "\taddi a2, zero, 1\n\taddi a7, zero, 63\n\tecall\n\tbge zero, a0, .Lend\n\tlbu a0, 0(a1)\n\tjalr zero, 0(ra)\n.Lend:\n\taddi a0, zero, -1\n\tjalr zero, 0(ra)\n")
+    around : (x : List ℕ) → getchar_front ++ (x ++ getchar_back)
         ≡ codes "c_getchar:\n" ++ ((code_text [] (take 1 (getchar_asks buffer)) ++ (x ++ code_text [] (drop 3 (getchar_asks buffer)))) ++ (instr_line (codes ".Lend") getchar_branch ++ (code_text [] getchar_byte ++ (codes ".Lend:\n" ++ code_text [] getchar_end))))
     around x = simp (d0, d1, d63, append_assoc)
 
 -- and those of the routine that writes
 pub putchar_lines : (buffer : ℕ)
-    → codes "c_putchar:\n\tandi t1, a0, 255\n" ++ (code_text [] (buffer_code buffer) ++ codes "\tsb t1, 0(a1)\n\taddi a0, zero, 1\n\taddi a2, zero, 1\n\taddi a7, zero, 64\n\tecall\n\taddi a0, t1, 0\n\tjalr zero, 0(ra)\n") ≡ putchar_text buffer
+    → putchar_front ++ (code_text [] (buffer_code buffer) ++ putchar_back) ≡ putchar_text buffer
 unfolding putchar_text
 putchar_lines buffer = around (code_text [] (buffer_code buffer)) ∙ ap (λ t. codes "c_putchar:\n" ++ t) (sym (among (take 1 (putchar_code buffer)) (drop 3 (putchar_code buffer)) buffer))
   where
-    around : (x : List ℕ) → codes "c_putchar:\n\tandi t1, a0, 255\n" ++ (x ++ codes "\tsb t1, 0(a1)\n\taddi a0, zero, 1\n\taddi a2, zero, 1\n\taddi a7, zero, 64\n\tecall\n\taddi a0, t1, 0\n\tjalr zero, 0(ra)\n")
+    around : (x : List ℕ) → putchar_front ++ (x ++ putchar_back)
         ≡ codes "c_putchar:\n" ++ (code_text [] (take 1 (putchar_code buffer)) ++ (x ++ code_text [] (drop 3 (putchar_code buffer))))
     around x = simp (d0, d1, d64, d255)

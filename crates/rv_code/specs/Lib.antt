@@ -7,3 +7,4 @@ pub mod Text
 pub mod WellFormed
 pub mod Loading
 pub mod Machine
+pub mod OneText

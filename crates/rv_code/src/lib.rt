@@ -17,8 +17,10 @@
 // instruction (and `_start` from the one behind its call), with the code in place at a multiple of 4 and,
 // for the two routines, the buffer byte accessible; they change no register but t1, a0 to a2 and a7.
 //
-// The theorem, on `text_of`: the bytes are exactly the text of the unit, where it is well formed. The law,
-// on `run_stays`: a run that has ended, or is stuck, is the same at every greater number of steps.
+// The theorem, on `text_of`: the bytes are exactly the text of the unit, where it is well formed. The laws:
+// a run that has ended, or is stuck, is the same at every greater number of steps (`run_stays`), and two
+// well-formed units of one text have the same names, lines and data (`one_unit_per_text`; the proof reads
+// two texts side by side, piece by piece: `proofs/Splits.antt`, `proofs/UnitTexts.antt`).
 //
 // Source: The RISC-V Instruction Set Manual, Volume I, edition of December 2019, 2 (RV32I) and 7
 // (M); the RISC-V Assembly Programmer's Manual, for the spelling of lines, the names of registers,
@@ -38,6 +40,6 @@ pub use assembly::{
     RvName, Symbol,
 };
 pub use form::Form;
-pub use laws::run_stays;
+pub use laws::{one_unit_per_text, run_stays};
 pub use machine::RvOutcome;
 pub use text::text_of;
