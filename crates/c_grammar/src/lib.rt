@@ -26,9 +26,10 @@
 // found: `Claims.antt` says what a derivation says of the reading, `Whole.antt` puts the cases together, one
 // for each rule, over the steps of `proofs/Budgets.antt`. `proofs/Kept*.antt`: a reading depends on
 // the tokens before its place and, unless it is too deep, on the token at the place.
-// `proofs/TooDeep`: what completes the tokens before a place where the reading is too deep. `proofs/Derived.antt` derives short lists where a rule is
-// easy to get wrong; `proofs/Refused.antt` says of parts what they cannot begin with and which trees they
-// cannot have; `proofs/SwitchKids.antt` says how labels and statements stand in a `switch`.
+// `proofs/TooDeep`: what completes the tokens before a place where the reading is too deep.
+// `proofs/Derived.antt` derives short lists where a rule is easy to get wrong; `proofs/Refused.antt` says of
+// parts what they cannot begin with and which trees they cannot have; `proofs/SwitchKids.antt` says how
+// labels and statements stand in a `switch`.
 // `proofs/Examples.antt` has short parts and their trees, for scopes and `switch`, `proofs/NoTrees.antt`
 // short units without a tree, `proofs/FaultPlaces.antt` places of faults in short units.
 //

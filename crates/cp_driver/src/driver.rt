@@ -39,7 +39,8 @@ pub fn cparser<F: Files, O: Sink, E: Sink>(
         → NoFault (F.faults files.old) (F.faults files.new) (O.faults out.old) (O.faults out.new) (E.faults err.old) (E.faults err.new)
         → result.fault ≢ Some Fault.OutOfMemory
         → Compiles bytes status result (O.written out.old) (O.written out.new) (E.written err.old) (E.written err.new) }
-    // Wherever its report is there, the machine that runs the assembly writes the bytes and ends with the status.
+    // Wherever its report is there, from some number of steps on the machine that runs the assembly has written the
+    // bytes and ended with the status.
     ensures runs { (file text bytes : List ℕ) (status : ℕ) → job_of words.now ≡ Some (compile file)
         → Tells (F.contents files.old) file text → IsFirst text bytes status
         → (report : Report) → result.report ≡ Some report → MachineWrites report.asm bytes status }

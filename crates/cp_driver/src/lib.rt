@@ -17,8 +17,9 @@
 // The theorem, on `cparser`: where the words ask to compile a file, the files tell its bytes, these are a
 // unit of the first form and at most 4,194,304, no count of faults rose and memory was not wanting, the
 // answer has status 0 and the unit's assembly, which is well formed, and the output has gained exactly its
-// text. Wherever there is an assembly of such a file, the machine that runs it writes the unit's bytes and
-// ends with its status, on every layout that holds it with a stack of at least 16 bytes. In the same way the
+// text. Wherever there is an assembly of such a file, on every layout that holds it with a stack of at least
+// 16 bytes, whatever the stack holds at the start and for every input, there is a number of steps from which
+// on the machine that runs it has written the unit's bytes and ended with its status. In the same way the
 // tokens of a file that has a token list are written, where the words ask for them, and its syntax tree,
 // where the list has one that is at most 500 high.
 //

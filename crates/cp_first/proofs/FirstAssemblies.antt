@@ -15,7 +15,7 @@ is_assembly text bytes status asm f e = record {
   unit = same;
   well_formed = subst IsWellFormed (sym e) (first_unit_is_well_formed bytes status f.each f.last);
   runs = λ bytes' status' g. subst (λ a. MachineWrites a bytes' status') (sym (same bytes' status' g))
-      (λ layout holds room input n. first_unit_runs bytes' status' layout holds room input g.each g.last n);
+      (λ layout holds room first_stack input. first_unit_runs bytes' status' layout holds room first_stack input g.each g.last);
 }
   where
     same : (bytes' : List ℕ) (status' : ℕ) → IsFirst text bytes' status' → asm ≡ first_unit bytes' status'

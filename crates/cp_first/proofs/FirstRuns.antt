@@ -9,15 +9,16 @@ use Rattle.cp_base.specs.Words.{sum, product, high_part, low_part}
 use Rattle.cp_base.proofs.HoldsTest.{test-Holds}
 use Rattle.rv_code.specs.declared.machine.RvOutcome.TheVariants.{Ended, Stuck}
 use Rattle.rv_code.specs.declared.assembly.AsmUnit.{AsmUnit}
-use Rattle.rv_code.specs.Text.{data_size}
+use Rattle.rv_code.specs.Sizes.{data_size}
 use Rattle.rv_code.specs.Registers.{x_zero, x_ra, x_sp, x_t0, x_a0}
 use Rattle.rv_code.specs.Places.{instrs_of}
 use Rattle.rv_code.specs.Loading.{address_of, loaded_from, HoldsUnit, code_size}
-use Rattle.rv_code.specs.Machine.{LoadedProgram, loaded, Machine, read, with_register, with_pc, load_bytes, store_bytes, can_access, first_state, run, rv_run}
+use Rattle.rv_code.specs.Machine.{LoadedProgram, loaded, Machine, read, with_register, with_pc, load_bytes, store_bytes, can_access, first_state, run, rv_run, IsRunFrom}
 use Rattle.rv_code.proofs.Runs.{Comes, stays, then_comes, IsHeld, on_gives, on_loads, on_stores, on_jumps, parts_make, sum-zero, address_is_word, jump_target, jump_target-address_of}
 use Rattle.rv_code.proofs.Stands.{StandsAt}
 use Rattle.rv_code.proofs.MemoryLaws.{load_bytes-store_bytes, load_bytes-put_at}
 use Rattle.rv_code.proofs.UnitStands.{entry_stands, putchar_stands, function_stands, unit_is_held, data_is_accessible, stack_is_accessible}
+use Rattle.rv_code.proofs.RunLaws.{ended_stays}
 use Rattle.rv_code.proofs.RoutineRuns.{putchar_runs, PutsByte, start_runs, start_ends}
 use Rattle.cp_first.specs.FirstForm.{IsByte}
 use Rattle.cp_first.specs.FirstUnit.{lines_of, call_code, tail_code, main_lines, main_function, first_unit}
@@ -31,7 +32,7 @@ instrs_of-calls (n ∷ ns) s =
     ∙ sym (append_assoc (call_code n) (flat_map call_code ns) (tail_code s))
     ∙ ap (λ code. code ++ tail_code s) (sym (flat_map-cons call_code n ns))
 
-module _ (bytes : List ℕ) (s : ℕ) (layout : Layout) (holds : HoldsUnit layout (first_unit bytes s)) (room : 16 ≤ layout.stack) (input : List ℕ) where
+module _ (bytes : List ℕ) (s : ℕ) (layout : Layout) (holds : HoldsUnit layout (first_unit bytes s)) (room : 16 ≤ layout.stack) (first_stack : ℕ → ℕ) (input : List ℕ) where
   abbrev asm : AsmUnit
   asm = first_unit bytes s
 
@@ -162,11 +163,11 @@ module _ (bytes : List ℕ) (s : ℕ) (layout : Layout) (holds : HoldsUnit layou
       }
 
   -- up to the first call
-  head_runs : (t : Machine) × InMain t 27 [] × Comes p input (first_state p) 0 t 0
+  head_runs : (t : Machine) × InMain t 27 [] × Comes p input (first_state p first_stack) 0 t 0
   head_runs = (h2, in_main, comes)
     where
       start : Machine
-      start = first_state p
+      start = first_state p first_stack
 
       entered : Machine
       entered = with_pc (with_register (with_register start x_t0 (product (high_part (address_of layout 25)) 4096)) x_ra (address_of layout 2)) (address_of layout 25)
@@ -201,11 +202,11 @@ module _ (bytes : List ℕ) (s : ℕ) (layout : Layout) (holds : HoldsUnit layou
       }
 
   -- from the return on
-  tail_runs : (t : Machine) (index : ℕ) → IsByte s → InMain t index bytes → StandsAt p.code index (loaded_from asm.functions layout index (tail_code s)) → (n : ℕ) → (m : ℕ) × (n ≤ m) × (run p input m t ≡ (Ended s, bytes))
-  tail_runs t index byte in_main stands n =
-      let ends = start_ends p input held asm.functions 0 0 0 (entry_stands asm layout) t4 refl n in
+  tail_runs : (t : Machine) (index : ℕ) → IsByte s → InMain t index bytes → StandsAt p.code index (loaded_from asm.functions layout index (tail_code s)) → (m : ℕ) × (run p input m t ≡ (Ended s, bytes))
+  tail_runs t index byte in_main stands =
+      let ends = start_ends p input held asm.functions 0 0 0 (entry_stands asm layout) t4 refl in
       let all = comes.by ends.0 in
-      (all.0, omega (arith, all.1, ends.1), all.2 ∙ ends.2 ∙ ap (λ status. (Ended status, t.out)) (omega (arith, byte)) ∙ ap (λ out. (Ended s, out)) in_main.out)
+      (all.0, all.2 ∙ ends.1 ∙ ap (λ status. (Ended status, t.out)) (omega (arith, byte)) ∙ ap (λ out. (Ended s, out)) in_main.out)
     where
       t1 : Machine
       t1 = with_pc (with_register t x_a0 s) (address_of layout (index + 1))
@@ -230,14 +231,16 @@ module _ (bytes : List ℕ) (s : ℕ) (layout : Layout) (holds : HoldsUnit layou
           (on_jumps p input held 0 (index + 1 + 1 + 1) t3 _ x_zero _ (address_of layout 2) 0 stands.1.1.1.0 refl refl returns (omega arith))))
 
   -- the whole run
-  pub first_unit_runs : AllByRecursion IsByte bytes → IsByte s → (n : ℕ) → (m : ℕ) × (n ≤ m) × (rv_run asm layout input m ≡ (Ended s, bytes))
+  ended : AllByRecursion IsByte bytes → IsByte s → (m : ℕ) × (rv_run asm layout first_stack input m ≡ (Ended s, bytes))
   unfolding rv_run
-  first_unit_runs h byte n =
+  ended h byte =
       let body = subst (λ code. StandsAt p.code 27 (loaded_from asm.functions layout 27 code)) (instrs_of-calls bytes s) (function_stands asm layout 0 (main_function bytes s) refl).1.1 in
       let calls = calls_run bytes head_runs.0 27 [] h head_runs.1 body in
-      let ends = tail_runs calls.state calls.index byte calls.in_main calls.stands n in
-      let all = (then_comes p input (first_state p) head_runs.0 calls.state 0 0 0 head_runs.2 calls.comes).by ends.0 in (
-        all.0,
-        omega (arith, all.1, ends.1),
-        ap (λ b. cond b (run p input all.0 (first_state p)) (Stuck layout.code, [])) (test-Holds layout (code_size asm) (data_size asm.items) holds) ∙ all.2 ∙ ends.2,
-      )
+      let ends = tail_runs calls.state calls.index byte calls.in_main calls.stands in
+      let all = (then_comes p input (first_state p first_stack) head_runs.0 calls.state 0 0 0 head_runs.2 calls.comes).by ends.0 in
+      (all.0, ap (λ b. cond b (run p input all.0 (first_state p first_stack)) (Stuck layout.code, [])) (test-Holds layout (code_size asm) (data_size asm.items) holds) ∙ all.2 ∙ ends.1)
+
+  pub first_unit_runs : AllByRecursion IsByte bytes → IsByte s → (steps : ℕ) × IsRunFrom asm layout first_stack input steps (Ended s, bytes)
+  first_unit_runs h byte =
+      let done = ended h byte in
+      (done.0, ended_stays asm layout first_stack input done.0 s bytes done.1)

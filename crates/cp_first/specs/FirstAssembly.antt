@@ -5,16 +5,17 @@ use Rattle.rv_code.specs.declared.assembly.AsmUnit.{AsmUnit}
 use Rattle.rv_code.specs.declared.machine.RvOutcome.TheVariants.{Ended}
 use Rattle.rv_code.specs.Loading.{HoldsUnit}
 use Rattle.rv_code.specs.WellFormed.{IsWellFormed}
-use Rattle.rv_code.specs.Machine.{rv_run}
+use Rattle.rv_code.specs.Machine.{IsRunFrom}
 use Rattle.cp_first.specs.FirstForm.{IsFirst}
 use Rattle.cp_first.specs.FirstUnit.{first_unit}
 
--- on every layout that holds the assembly with a stack of at least 16 bytes, and for every input: after any number of
--- steps there is a moment from which on the machine has ended with this status and has written these bytes
+-- on every layout that holds the assembly with a stack of at least 16 bytes, whatever the stack holds at the start and
+-- for every input: there is a number of steps from which on the run has ended with this status and has written these
+-- bytes
 abbrev pub MachineWrites : AsmUnit → List ℕ → ℕ → Type 0
 MachineWrites asm bytes status =
-    (layout : Layout) → HoldsUnit layout asm → 16 ≤ layout.stack → (input : List ℕ) (n : ℕ) →
-    (m : ℕ) × (n ≤ m) × (rv_run asm layout input m ≡ (Ended status, bytes))
+    (layout : Layout) → HoldsUnit layout asm → 16 ≤ layout.stack → (first_stack : ℕ → ℕ) (input : List ℕ) →
+    (steps : ℕ) × IsRunFrom asm layout first_stack input steps (Ended status, bytes)
 
 -- the text is a unit of the first form, and this is its assembly
 pub record IsAssemblyOf (text : List ℕ) (asm : AsmUnit) : Type 0 where

@@ -11,9 +11,10 @@
 // text says (`proofs/FirstForms.antt`).
 //
 // The theorem, on `compile_first`: the assembly is that of the unit and is well formed, and on every layout
-// that holds it with a stack of at least 16 bytes, for every input, the machine that runs it writes the
-// unit's bytes and ends with its status; and there is none exactly where the text is of another form. Where
-// memory is refused it says nothing.
+// that holds it with a stack of at least 16 bytes, whatever the stack holds at the start and for every
+// input, there is a number of steps from which on the machine that runs it has written the unit's bytes and
+// ended with its status; and there is none exactly where the text is of another form. Where memory is
+// refused it says nothing.
 //
 // Source: C99 5.1.2.2.3 (the status of `main`); the frame and the calls are those of the RISC-V
 // calling convention.

@@ -1,7 +1,9 @@
 pub mod MachineVectors
+pub mod MainNumber
 pub mod MemoryLaws
 pub mod Pieces
 pub mod RoutineRuns
+pub mod RunLaws
 pub mod Runs
 pub mod Sizes
 pub mod Stands

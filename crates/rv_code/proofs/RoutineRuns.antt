@@ -1,5 +1,5 @@
 -- What the start and the two routines do, from any state.
-use Rattle.std.proofs.Common.{◌≡◌, ℕ, zero, suc, ◌+◌, ◌%◌, ◌^◌, ◌<◌, ◌≤◌, Bool, true, false, cond, ◌||◌, List, [], ◌∷◌, ◌++◌, Option, Some, None, refl, ap, ◌∙◌, arith}
+use Rattle.std.proofs.Common.{◌≡◌, ℕ, zero, suc, ◌+◌, ◌%◌, ◌^◌, ◌<◌, Bool, true, false, cond, ◌||◌, List, [], ◌∷◌, ◌++◌, Option, Some, None, refl, ap, ◌∙◌, arith}
 use Rattle.std.specs.Prelude.{slice_get, ◌==◌}
 use Rattle.std.proofs.lemmas.Bool.Decides.{nat_tests}
 use Rattle.std.proofs.lemmas.Nat.{and_mask}
@@ -297,13 +297,13 @@ module _ (p : LoadedProgram) (input : List ℕ) (held : IsHeld p) (functions : L
             ∙ jump_target-address_of p.layout index held.aligned
 
     -- and it ends with what is in a0 where `main` has come back
-    pub start_ends : (s : Machine) → s.pc ≡ address_of p.layout 2 → (n : ℕ) → (m : ℕ) × (n ≤ m) × (run p input m s ≡ (Ended (read s x_a0 % 256), s.out))
-    start_ends s at n =
-        let first = (on_gives p input held 0 2 s _ x_a7 _ 93 stands.1.1.0 at refl refl).by (suc n) in
-        (first.0, omega (arith, first.1), first.2 ∙ ended)
+    pub start_ends : (s : Machine) → s.pc ≡ address_of p.layout 2 → (m : ℕ) × (run p input m s ≡ (Ended (read s x_a0 % 256), s.out))
+    start_ends s at =
+        let first = (on_gives p input held 0 2 s _ x_a7 _ 93 stands.1.1.0 at refl refl).by 1 in
+        (first.0, first.2 ∙ ended)
       where
         f1 : Machine
         f1 = with_pc (with_register s x_a7 93) (address_of p.layout 3)
 
-        ended : run p input (suc n) f1 ≡ (Ended (read s x_a0 % 256), s.out)
-        ended = ap (λ o. resumes f1 (obeys p input f1 o) (run p input n)) (fetched-address_of p held 3 _ stands.1.1.1.0)
+        ended : run p input 1 f1 ≡ (Ended (read s x_a0 % 256), s.out)
+        ended = ap (λ o. resumes f1 (obeys p input f1 o) (run p input 0)) (fetched-address_of p held 3 _ stands.1.1.1.0)

@@ -1,7 +1,7 @@
 -- The size of data, item by item.
 use Rattle.std.proofs.Common.{◌≡◌, ℕ, zero, suc, ◌+◌, ◌<◌, List, [], ◌∷◌, length, take, get_or, arith}
 use Rattle.rv_code.specs.declared.assembly.DataItem.{DataItem}
-use Rattle.rv_code.specs.Text.{item_size, data_size}
+use Rattle.rv_code.specs.Sizes.{item_size, data_size}
 
 -- one item more
 pub data_size-take : (items : List DataItem) (i : ℕ) (d : DataItem) → i < length items → data_size (take (i + 1) items) ≡ data_size (take i items) + item_size (get_or items i d)

@@ -1,13 +1,13 @@
--- The lines before the functions are the text of the instructions there, and the indices count these.
-use Rattle.std.proofs.Common.{◌≡◌, ℕ, ◌+◌, ◌/◌, ◌%◌, ◌^◌, ◌<◌, ◌≤◌, lit<, lit≤, List, [], ◌∷◌, ◌++◌, map, length, take, drop, refl, ap, ◌∙◌, append_assoc}
+-- The text of the instructions before the functions, line by line, and their indices.
+use Rattle.std.proofs.Common.{◌≡◌, ℕ, ◌+◌, ◌/◌, ◌%◌, ◌^◌, ◌<◌, ◌≤◌, lit<, lit≤, List, [], ◌∷◌, ◌++◌, length, take, drop, refl, sym, ap, ◌∙◌, append_assoc}
 use Rattle.std.specs.Prelude.{codes, slice_get}
 use Rattle.std.specs.Fmt.{decimal}
 use Rattle.std.proofs.lemmas.Fmt.{decimal_digit, decimal_step}
-use Rattle.std.specs.List.{concat}
+use Rattle.std.proofs.lemmas.Grind.{flat_map-append}
 use Rattle.rv_code.specs.declared.assembly.AsmFunction.{AsmFunction}
 use Rattle.rv_code.specs.declared.assembly.AsmInstr.{AsmInstr}
-use Rattle.rv_code.specs.Text.{name_of, cdata_text, instr_text, entry_text, buffer_text, getchar_text, putchar_text}
-use Rattle.rv_code.specs.Routines.{entry_code, buffer_code, getchar_code, putchar_code, start_code, getchar_index, putchar_index, functions_index}
+use Rattle.rv_code.specs.Text.{name_of, cdata_text, instr_line, instr_text, code_text, entry_text, getchar_text, putchar_text}
+use Rattle.rv_code.specs.Routines.{entry_code, buffer_code, getchar_asks, getchar_branch, getchar_byte, getchar_end, getchar_code, putchar_code, start_code, getchar_index, putchar_index, functions_index}
 
 pub getchar_follows : (main : ℕ) → length (entry_code main) ≡ getchar_index
 getchar_follows main = refl
@@ -41,38 +41,45 @@ d93 = two 93 (lit≤ tt) (lit< tt) (lit< tt)
 d255 : decimal 255 ≡ codes "255"
 d255 = decimal_step 255 (lit≤ tt) (lit< tt) ∙ ap (λ ds. ds ++ 53 ∷ []) (two 25 (lit≤ tt) (lit< tt) (lit< tt))
 
--- the instructions as text
-abbrev texts : List AsmFunction → List AsmInstr → List (List ℕ)
-texts functions code = map (instr_text functions) code
-
--- the head of `entry_text`, and the instructions, where the function of this number is `main`
-pub entry_is_code : (functions : List AsmFunction) (main : ℕ) → name_of (slice_get functions main) ≡ codes "main" → concat (codes "\t.text\n" ∷ codes "\t.globl _start\n" ∷ codes "_start:\n" ∷ texts functions (entry_code main)) ≡ entry_text
-entry_is_code functions main e = simp (e, d93)
+-- the lines of the start, where `main` has its name
+pub entry_lines : (functions : List AsmFunction) (main : ℕ) → name_of (slice_get functions main) ≡ codes "main"
+    → codes "\t.text\n\t.globl _start\n_start:\n\tlui t0, %hi(c_main)\n\tjalr ra, %lo(c_main)(t0)\n\taddi a7, zero, 93\n\tecall\n" ≡ entry_text functions main
+entry_lines functions main e = simp (e, d93)
 
 -- the end of a line, in the grouping of a line
 line_end : (x tail : List ℕ) → ((x ++ codes ")") ++ codes "\n") ++ tail ≡ x ++ (codes ")\n" ++ tail)
 line_end x tail = append_assoc (x ++ codes ")") (codes "\n") tail ∙ append_assoc x (codes ")") (codes "\n" ++ tail)
 
 -- the two lines that make the address of the buffer byte
-pub buffer_is_code : (functions : List AsmFunction) (buffer : ℕ) → concat (texts functions (buffer_code buffer)) ≡ buffer_text buffer
-unfolding buffer_text
-buffer_is_code functions buffer =
+pub buffer_lines : (buffer : ℕ)
+    → codes "\tlui a1, %hi(" ++ (cdata_text buffer ++ (codes ")\n\taddi a1, a1, %lo(" ++ (cdata_text buffer ++ codes ")\n"))) ≡ code_text [] (buffer_code buffer)
+buffer_lines buffer =
     let x = cdata_text buffer in
-    ap (λ t. codes "\tlui a1, %hi(" ++ t) (line_end x (concat (texts functions (drop 1 (buffer_code buffer)))))
-    ∙ ap (λ t. codes "\tlui a1, %hi(" ++ (x ++ (codes ")\n" ++ (codes "\taddi a1, a1, %lo(" ++ t)))) (line_end x [])
+    sym (ap (λ t. codes "\tlui a1, %hi(" ++ t) (line_end x (code_text [] (drop 1 (buffer_code buffer))))
+    ∙ ap (λ t. codes "\tlui a1, %hi(" ++ (x ++ (codes ")\n\taddi a1, a1, %lo(" ++ t))) (line_end x []))
 
--- the lines of the routine that reads, around these two, are its instructions, but for the branch, which
--- stands with its label
-pub getchar_is_code : (functions : List AsmFunction) (buffer : ℕ) →
-    concat (codes "c_getchar:\n" ∷ (texts functions (take 1 (getchar_code buffer)) ++ buffer_text buffer ∷
-    (texts functions (take 3 (drop 3 (getchar_code buffer))) ++ codes "\tbge zero, a0, .Lend\n" ∷
-    (texts functions (take 2 (drop 7 (getchar_code buffer))) ++ codes ".Lend:\n" ∷ texts functions (drop 9 (getchar_code buffer))))))
-    ≡ getchar_text buffer
+-- these two lines among those around them
+among : (pre post : List AsmInstr) (buffer : ℕ) → code_text [] (pre ++ (buffer_code buffer ++ post)) ≡ code_text [] pre ++ (code_text [] (buffer_code buffer) ++ code_text [] post)
+among pre post buffer =
+    flat_map-append (instr_text []) pre (buffer_code buffer ++ post)
+    ∙ ap (λ t. code_text [] pre ++ t) (flat_map-append (instr_text []) (buffer_code buffer) post)
+
+-- the lines of the routine that reads, around these two
+pub getchar_lines : (buffer : ℕ)
+    → codes "c_getchar:\n\taddi a0, zero, 0\n" ++ (code_text [] (buffer_code buffer) ++ codes "\taddi a2, zero, 1\n\taddi a7, zero, 63\n\tecall\n\tbge zero, a0, .Lend\n\tlbu a0, 0(a1)\n\tjalr zero, 0(ra)\n.Lend:\n\taddi a0, zero, -1\n\tjalr zero, 0(ra)\n") ≡ getchar_text buffer
 unfolding getchar_text
-getchar_is_code functions buffer = simp (d0, d1, d63)
+getchar_lines buffer = around (code_text [] (buffer_code buffer)) ∙ ap (λ t. codes "c_getchar:\n" ++ (t ++ (instr_line (codes ".Lend") getchar_branch ++ (code_text [] getchar_byte ++ (codes ".Lend:\n" ++ code_text [] getchar_end))))) (sym (among (take 1 (getchar_asks buffer)) (drop 3 (getchar_asks buffer)) buffer))
+  where
+    around : (x : List ℕ) → codes "c_getchar:\n\taddi a0, zero, 0\n" ++ (x ++ codes "\taddi a2, zero, 1\n\taddi a7, zero, 63\n\tecall\n\tbge zero, a0, .Lend\n\tlbu a0, 0(a1)\n\tjalr zero, 0(ra)\n.Lend:\n\taddi a0, zero, -1\n\tjalr zero, 0(ra)\n")
+        ≡ codes "c_getchar:\n" ++ ((code_text [] (take 1 (getchar_asks buffer)) ++ (x ++ code_text [] (drop 3 (getchar_asks buffer)))) ++ (instr_line (codes ".Lend") getchar_branch ++ (code_text [] getchar_byte ++ (codes ".Lend:\n" ++ code_text [] getchar_end))))
+    around x = simp (d0, d1, d63, append_assoc)
 
-pub putchar_is_code : (functions : List AsmFunction) (buffer : ℕ) →
-    concat (codes "c_putchar:\n" ∷ (texts functions (take 1 (putchar_code buffer)) ++ buffer_text buffer ∷ texts functions (drop 3 (putchar_code buffer))))
-    ≡ putchar_text buffer
+-- and those of the routine that writes
+pub putchar_lines : (buffer : ℕ)
+    → codes "c_putchar:\n\tandi t1, a0, 255\n" ++ (code_text [] (buffer_code buffer) ++ codes "\tsb t1, 0(a1)\n\taddi a0, zero, 1\n\taddi a2, zero, 1\n\taddi a7, zero, 64\n\tecall\n\taddi a0, t1, 0\n\tjalr zero, 0(ra)\n") ≡ putchar_text buffer
 unfolding putchar_text
-putchar_is_code functions buffer = simp (d0, d1, d64, d255)
+putchar_lines buffer = around (code_text [] (buffer_code buffer)) ∙ ap (λ t. codes "c_putchar:\n" ++ t) (sym (among (take 1 (putchar_code buffer)) (drop 3 (putchar_code buffer)) buffer))
+  where
+    around : (x : List ℕ) → codes "c_putchar:\n\tandi t1, a0, 255\n" ++ (x ++ codes "\tsb t1, 0(a1)\n\taddi a0, zero, 1\n\taddi a2, zero, 1\n\taddi a7, zero, 64\n\tecall\n\taddi a0, t1, 0\n\tjalr zero, 0(ra)\n")
+        ≡ codes "c_putchar:\n" ++ (code_text [] (take 1 (putchar_code buffer)) ++ (x ++ code_text [] (drop 3 (putchar_code buffer))))
+    around x = simp (d0, d1, d64, d255)

@@ -12,7 +12,7 @@ use Rattle.rv_code.specs.declared.assembly.AsmFunction.{AsmFunction}
 use Rattle.rv_code.specs.declared.assembly.AsmUnit.{AsmUnit}
 use Rattle.rv_code.specs.declared.assembly.DataItem.{DataItem}
 use Rattle.rv_code.specs.declared.assembly.DataItem.TheVariants.{Zero, Byte, Address}
-use Rattle.rv_code.specs.Text.{item_size, data_size, buffer_offset}
+use Rattle.rv_code.specs.Sizes.{item_size, data_size, buffer_offset}
 use Rattle.rv_code.specs.Routines.{entry_code, getchar_code, putchar_code, start_code}
 use Rattle.rv_code.specs.Places.{instrs_of, code_of, main_number, whole_code, function_index}
 use Rattle.rv_code.specs.Loading.{loaded_from, loaded_code, loaded_data, item_bytes, HoldsUnit}

@@ -1,8 +1,9 @@
 pub mod Forms
-pub mod Text
 pub mod Registers
+pub mod Sizes
 pub mod Routines
 pub mod Places
+pub mod Text
 pub mod WellFormed
 pub mod Loading
 pub mod Machine

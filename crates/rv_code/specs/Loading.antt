@@ -15,7 +15,7 @@ use Rattle.rv_code.specs.declared.assembly.AsmFunction.{AsmFunction}
 use Rattle.rv_code.specs.declared.assembly.AsmUnit.{AsmUnit}
 use Rattle.rv_code.specs.declared.assembly.DataItem.{DataItem}
 use Rattle.rv_code.specs.declared.assembly.DataItem.TheVariants.{Zero, Byte, Address}
-use Rattle.rv_code.specs.Text.{data_size}
+use Rattle.rv_code.specs.Sizes.{data_size}
 use Rattle.rv_code.specs.Places.{whole_code, symbol_index}
 
 -- the i-th instruction, counted from 0, has the address `code + 4i`, modulo 2 ^ 32

@@ -1,7 +1,7 @@
 -- The machine that runs a loaded program: its state, one step, and a run.
 -- The RISC-V Instruction Set Manual, Volume I, edition of December 2019: 1.4 and 1.5 (memory, instructions),
 -- 2 (RV32I) and 7 (M). The environment calls are this project's own, with the numbers of Linux.
-use Rattle.std.specs.Prelude.{ℕ, zero, suc, ◌+◌, ◌-◌, ◌*◌, ◌/◌, ◌%◌, ◌≤◌, Bool, ◌==◌, nat_lt, nat_le, ◌&&◌, ◌||◌, not, if◌then◌else◌, List, [], ◌∷◌, ◌++◌, length, slice_get, slice_index, Option, Some, None, bit_and, bit_or, bit_xor, int_lt}
+use Rattle.std.specs.Prelude.{◌≡◌, ℕ, zero, suc, ◌+◌, ◌-◌, ◌*◌, ◌/◌, ◌%◌, ◌≤◌, Bool, ◌==◌, nat_lt, nat_le, ◌&&◌, ◌||◌, not, if◌then◌else◌, List, [], ◌∷◌, ◌++◌, length, slice_get, slice_index, Option, Some, None, bit_and, bit_or, bit_xor, int_lt}
 use Rattle.std.specs.List.{AllByRecursion}
 use Rattle.cp_base.specs.declared.layout.Layout.{Layout}
 use Rattle.cp_base.specs.Regions.{holds}
@@ -12,7 +12,7 @@ use Rattle.rv_code.specs.declared.assembly.RvName.{RvName}
 use Rattle.rv_code.specs.declared.assembly.RvName.TheVariants.{Lui, Jal, Jalr, Beq, Bne, Blt, Bge, Bltu, Bgeu, Lb, Lh, Lw, Lbu, Lhu, Sb, Sh, Sw, Addi, Slti, Sltiu, Xori, Ori, Andi, Slli, Srli, Srai, Add, Sub, Sll, Slt, Sltu, Xor, Srl, Sra, Or, And, Ecall, Mul, Div, Divu, Rem, Remu}
 use Rattle.rv_code.specs.declared.assembly.AsmFunction.{AsmFunction}
 use Rattle.rv_code.specs.declared.assembly.AsmUnit.{AsmUnit}
-use Rattle.rv_code.specs.Text.{data_size}
+use Rattle.rv_code.specs.Sizes.{data_size}
 use Rattle.rv_code.specs.Registers.{x_sp, x_a0, x_a1, x_a2, x_a7}
 use Rattle.rv_code.specs.Loading.{LoadedInstr, loaded_code, loaded_data, code_size}
 
@@ -196,26 +196,44 @@ abbrev pub run : LoadedProgram → List ℕ → ℕ → Machine → RvOutcome ×
 run p input zero m = (Running, m.out)
 run p input (suc n) m = resumes m (step p input m) (run p input n)
 
--- the data in memory, and 0 elsewhere: the stack too is 0 at the start
-abbrev pub first_memory : LoadedProgram → ℕ → ℕ
-first_memory p address = if nat_le p.layout.cdata address then slice_index p.bytes (address - p.layout.cdata) else 0
+-- the data in memory, and elsewhere the low byte of what is given for the address: a program reaches only the stack there
+abbrev pub first_memory : LoadedProgram → (ℕ → ℕ) → ℕ → ℕ
+first_memory p first_stack address =
+    if is_inside p.layout.cdata (length p.bytes) address 1 then slice_index p.bytes (address - p.layout.cdata) else first_stack address % 256
 
 -- the start: at the first instruction, sp at the top of the stack, every other register 0
-abbrev pub first_state : LoadedProgram → Machine
-first_state p = record {
+abbrev pub first_state : LoadedProgram → (ℕ → ℕ) → Machine
+first_state p first_stack = record {
   pc = p.layout.code;
   registers = put_at (λ _. 0) x_sp p.layout.top;
-  memory = first_memory p;
+  memory = first_memory p first_stack;
   taken = 0;
   out = [];
 }
 
--- so many steps of a unit at a layout. One that does not hold it is stuck before any step.
-unfoldable pub rv_run : AsmUnit → Layout → List ℕ → ℕ → RvOutcome × List ℕ
-rv_run asm layout input steps =
+-- so many steps of a unit at a layout, from what the stack holds at the start. A layout that does not hold the unit is
+-- stuck before any step.
+unfoldable pub rv_run : AsmUnit → Layout → (ℕ → ℕ) → List ℕ → ℕ → RvOutcome × List ℕ
+rv_run asm layout first_stack input steps =
     if holds layout (code_size asm) (data_size asm.items)
-    then run (loaded asm layout) input steps (first_state (loaded asm layout))
+    then run (loaded asm layout) input steps (first_state (loaded asm layout) first_stack)
     else (Stuck layout.code, [])
+
+-- from this number of steps on, the run has come to this outcome and this output
+abbrev pub IsRunFrom : AsmUnit → Layout → (ℕ → ℕ) → List ℕ → ℕ → RvOutcome × List ℕ → Type 0
+IsRunFrom asm layout first_stack input steps result = (more : ℕ) → steps ≤ more → rv_run asm layout first_stack input more ≡ result
+
+-- a run that has ended is the same at every greater number of steps
+abbrev pub EndedRunStays : Type 0
+EndedRunStays =
+    (asm : AsmUnit) (layout : Layout) (first_stack : ℕ → ℕ) (input : List ℕ) (steps status : ℕ) (out : List ℕ)
+    → rv_run asm layout first_stack input steps ≡ (Ended status, out) → IsRunFrom asm layout first_stack input steps (Ended status, out)
+
+-- and so is one that is stuck
+abbrev pub StuckRunStays : Type 0
+StuckRunStays =
+    (asm : AsmUnit) (layout : Layout) (first_stack : ℕ → ℕ) (input : List ℕ) (steps pc : ℕ) (out : List ℕ)
+    → rv_run asm layout first_stack input steps ≡ (Stuck pc, out) → IsRunFrom asm layout first_stack input steps (Stuck pc, out)
 
 -- so many active calls fit the stack, whichever functions they are of
 abbrev pub Fits : AsmUnit → Layout → ℕ → Type 0

@@ -10,7 +10,7 @@ use Rattle.rv_code.specs.declared.assembly.AsmLine.{AsmLine}
 use Rattle.rv_code.specs.declared.assembly.AsmLine.TheVariants.{Label, Instr}
 use Rattle.rv_code.specs.declared.assembly.AsmFunction.{AsmFunction}
 use Rattle.rv_code.specs.declared.assembly.AsmUnit.{AsmUnit}
-use Rattle.rv_code.specs.Text.{buffer_offset}
+use Rattle.rv_code.specs.Sizes.{buffer_offset}
 use Rattle.rv_code.specs.Routines.{start_code, getchar_index, putchar_index, functions_index}
 
 -- the instructions among lines

@@ -1,6 +1,5 @@
--- The instructions before the functions: the start of the run, and the two routines. Their lines are
--- `entry_text`, `getchar_text` and `putchar_text`. A branch's number is its distance in bytes.
-use Rattle.std.specs.Prelude.{ℕ, List, [], ◌∷◌, ◌++◌, pos, negsuc}
+-- The instructions before the functions: the start of the run, and the two routines.
+use Rattle.std.specs.Prelude.{ℕ, ◌+◌, ◌*◌, List, [], ◌∷◌, ◌++◌, length, pos, negsuc}
 use Rattle.rv_code.specs.declared.assembly.RvName.{RvName}
 use Rattle.rv_code.specs.declared.assembly.RvName.TheVariants.{Lui, Jalr, Bge, Lbu, Sb, Addi, Andi, Ecall}
 use Rattle.rv_code.specs.declared.assembly.Symbol.TheVariants.{Func, Cdata}
@@ -28,7 +27,7 @@ jalr rd operand rs1 = instr Jalr rd rs1 0 operand
 abbrev pub ecall : AsmInstr
 ecall = instr Ecall 0 0 0 (Number (pos 0))
 
--- where the run begins, in a unit whose function `main` has this number
+-- the run begins here: it calls `main`, the function of this number, and ends with what `main` gives
 abbrev pub entry_code : ℕ → List AsmInstr
 entry_code main =
     lui x_t0 (High (Func main)) ∷
@@ -42,20 +41,35 @@ buffer_code buffer =
     lui x_a1 (High (Cdata buffer)) ∷
     addi x_a1 x_a1 (Low (Cdata buffer)) ∷ []
 
-abbrev pub getchar_code : ℕ → List AsmInstr
-getchar_code buffer =
+-- the routine that reads a byte, and gives -1 at the end of the input: it asks for a byte, gives the one that came,
+-- or gives -1
+abbrev pub getchar_asks : ℕ → List AsmInstr
+getchar_asks buffer =
     addi x_a0 x_zero (Number (pos 0)) ∷
     (buffer_code buffer ++
     addi x_a2 x_zero (Number (pos 1)) ∷
     addi x_a7 x_zero (Number (pos 63)) ∷
-    ecall ∷
-    -- `bge zero, a0, .Lend`, which stands three instructions on
-    instr Bge 0 x_zero x_a0 (Number (pos 12)) ∷
-    instr Lbu x_a0 x_a1 0 (Number (pos 0)) ∷
-    jalr x_zero (Number (pos 0)) x_ra ∷
-    addi x_a0 x_zero (Number (negsuc 0)) ∷
-    jalr x_zero (Number (pos 0)) x_ra ∷ [])
+    ecall ∷ [])
 
+abbrev pub getchar_byte : List AsmInstr
+getchar_byte =
+    instr Lbu x_a0 x_a1 0 (Number (pos 0)) ∷
+    jalr x_zero (Number (pos 0)) x_ra ∷ []
+
+abbrev pub getchar_end : List AsmInstr
+getchar_end =
+    addi x_a0 x_zero (Number (negsuc 0)) ∷
+    jalr x_zero (Number (pos 0)) x_ra ∷ []
+
+-- no byte came: over the instructions that give one. The label there is no operand's, so the operand is the distance
+-- in bytes.
+abbrev pub getchar_branch : AsmInstr
+getchar_branch = instr Bge 0 x_zero x_a0 (Number (pos (4 * (1 + length getchar_byte))))
+
+abbrev pub getchar_code : ℕ → List AsmInstr
+getchar_code buffer = getchar_asks buffer ++ (getchar_branch ∷ (getchar_byte ++ getchar_end))
+
+-- the routine that writes a byte, and gives it back
 abbrev pub putchar_code : ℕ → List AsmInstr
 putchar_code buffer =
     instr Andi x_t1 x_a0 0 (Number (pos 255)) ∷

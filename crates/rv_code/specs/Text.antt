@@ -1,9 +1,7 @@
 -- The text of a unit, line by line.
-use Rattle.std.specs.Prelude.{ℕ, zero, suc, ◌+◌, ◌-◌, List, [], ◌∷◌, ◌++◌, codes, Option, Some, None, slice_get, unwrap_or}
-use Rattle.std.specs.List.{flat_map, concat}
+use Rattle.std.specs.Prelude.{ℕ, zero, suc, List, [], ◌++◌, codes, Option, Some, None, slice_get}
+use Rattle.std.specs.List.{flat_map}
 use Rattle.std.specs.Fmt.{decimal, signed_decimal}
-use Rattle.rv_code.specs.declared.assembly.RvName.{RvName}
-use Rattle.rv_code.specs.declared.assembly.RvName.TheVariants.{Lui, Jal, Jalr, Beq, Bne, Blt, Bge, Bltu, Bgeu, Lb, Lh, Lw, Lbu, Lhu, Sb, Sh, Sw, Addi, Slti, Sltiu, Xori, Ori, Andi, Slli, Srli, Srai, Add, Sub, Sll, Slt, Sltu, Xor, Srl, Sra, Or, And, Ecall, Mul, Div, Divu, Rem, Remu}
 use Rattle.rv_code.specs.declared.assembly.Symbol.{Symbol}
 use Rattle.rv_code.specs.declared.assembly.Symbol.TheVariants.{Block, Func, GetChar, PutChar, Cdata}
 use Rattle.rv_code.specs.declared.assembly.Operand.{Operand}
@@ -17,63 +15,11 @@ use Rattle.rv_code.specs.declared.assembly.DataItem.{DataItem}
 use Rattle.rv_code.specs.declared.assembly.DataItem.TheVariants.{Zero, Byte, Address}
 use Rattle.rv_code.specs.declared.form.Form.{Form}
 use Rattle.rv_code.specs.declared.form.Form.TheVariants.{Upper, Jump, Indirect, Store, Branch, Immediate, Shift, Registers, Environment}
-use Rattle.rv_code.specs.Forms.{form_of}
-
--- the mnemonic
-abbrev pub name_text : RvName → List ℕ
-name_text Lui = codes "lui"
-name_text Jal = codes "jal"
-name_text Jalr = codes "jalr"
-name_text Beq = codes "beq"
-name_text Bne = codes "bne"
-name_text Blt = codes "blt"
-name_text Bge = codes "bge"
-name_text Bltu = codes "bltu"
-name_text Bgeu = codes "bgeu"
-name_text Lb = codes "lb"
-name_text Lh = codes "lh"
-name_text Lw = codes "lw"
-name_text Lbu = codes "lbu"
-name_text Lhu = codes "lhu"
-name_text Sb = codes "sb"
-name_text Sh = codes "sh"
-name_text Sw = codes "sw"
-name_text Addi = codes "addi"
-name_text Slti = codes "slti"
-name_text Sltiu = codes "sltiu"
-name_text Xori = codes "xori"
-name_text Ori = codes "ori"
-name_text Andi = codes "andi"
-name_text Slli = codes "slli"
-name_text Srli = codes "srli"
-name_text Srai = codes "srai"
-name_text Add = codes "add"
-name_text Sub = codes "sub"
-name_text Sll = codes "sll"
-name_text Slt = codes "slt"
-name_text Sltu = codes "sltu"
-name_text Xor = codes "xor"
-name_text Srl = codes "srl"
-name_text Sra = codes "sra"
-name_text Or = codes "or"
-name_text And = codes "and"
-name_text Ecall = codes "ecall"
-name_text Mul = codes "mul"
-name_text Div = codes "div"
-name_text Divu = codes "divu"
-name_text Rem = codes "rem"
-name_text Remu = codes "remu"
-
--- the names of registers in the calling convention
-abbrev pub register_names : List (List ℕ)
-register_names =
-    codes "zero" ∷ codes "ra" ∷ codes "sp" ∷ codes "gp" ∷ codes "tp" ∷ codes "t0" ∷ codes "t1" ∷ codes "t2" ∷
-    codes "s0" ∷ codes "s1" ∷ codes "a0" ∷ codes "a1" ∷ codes "a2" ∷ codes "a3" ∷ codes "a4" ∷ codes "a5" ∷
-    codes "a6" ∷ codes "a7" ∷ codes "s2" ∷ codes "s3" ∷ codes "s4" ∷ codes "s5" ∷ codes "s6" ∷ codes "s7" ∷
-    codes "s8" ∷ codes "s9" ∷ codes "s10" ∷ codes "s11" ∷ codes "t3" ∷ codes "t4" ∷ codes "t5" ∷ codes "t6" ∷ []
-
-abbrev pub register_text : ℕ → List ℕ
-register_text register = unwrap_or (slice_get register_names register) []
+use Rattle.rv_code.specs.Forms.{name_text, form_of}
+use Rattle.rv_code.specs.Registers.{register_text}
+use Rattle.rv_code.specs.Sizes.{buffer_offset}
+use Rattle.rv_code.specs.Routines.{entry_code, getchar_asks, getchar_branch, getchar_byte, getchar_end, putchar_code}
+use Rattle.rv_code.specs.Places.{main_number}
 
 -- a number of bytes after a symbol, which is not printed where it is 0
 abbrev pub plus_text : ℕ → List ℕ
@@ -110,20 +56,28 @@ operand_text functions (To symbol) = symbol_text functions symbol
 abbrev pub comma : List ℕ
 comma = codes ", "
 
--- the fields of an instruction, in the order of its form
-abbrev pub fields_text : List AsmFunction → Form → AsmInstr → List ℕ
-fields_text functions Upper i = codes " " ++ register_text i.rd ++ comma ++ operand_text functions i.operand
-fields_text functions Jump i = codes " " ++ register_text i.rd ++ comma ++ operand_text functions i.operand
-fields_text functions Indirect i = codes " " ++ register_text i.rd ++ comma ++ operand_text functions i.operand ++ codes "(" ++ register_text i.rs1 ++ codes ")"
-fields_text functions Store i = codes " " ++ register_text i.rs2 ++ comma ++ operand_text functions i.operand ++ codes "(" ++ register_text i.rs1 ++ codes ")"
-fields_text functions Branch i = codes " " ++ register_text i.rs1 ++ comma ++ register_text i.rs2 ++ comma ++ operand_text functions i.operand
-fields_text functions Immediate i = codes " " ++ register_text i.rd ++ comma ++ register_text i.rs1 ++ comma ++ operand_text functions i.operand
-fields_text functions Shift i = codes " " ++ register_text i.rd ++ comma ++ register_text i.rs1 ++ comma ++ operand_text functions i.operand
-fields_text functions Registers i = codes " " ++ register_text i.rd ++ comma ++ register_text i.rs1 ++ comma ++ register_text i.rs2
-fields_text functions Environment i = []
+-- the fields of an instruction whose operand has this text, in the order of its form
+abbrev pub fields_text : List ℕ → Form → AsmInstr → List ℕ
+fields_text operand Upper i = codes " " ++ register_text i.rd ++ comma ++ operand
+fields_text operand Jump i = codes " " ++ register_text i.rd ++ comma ++ operand
+fields_text operand Indirect i = codes " " ++ register_text i.rd ++ comma ++ operand ++ codes "(" ++ register_text i.rs1 ++ codes ")"
+fields_text operand Store i = codes " " ++ register_text i.rs2 ++ comma ++ operand ++ codes "(" ++ register_text i.rs1 ++ codes ")"
+fields_text operand Branch i = codes " " ++ register_text i.rs1 ++ comma ++ register_text i.rs2 ++ comma ++ operand
+fields_text operand Immediate i = codes " " ++ register_text i.rd ++ comma ++ register_text i.rs1 ++ comma ++ operand
+fields_text operand Shift i = codes " " ++ register_text i.rd ++ comma ++ register_text i.rs1 ++ comma ++ operand
+fields_text operand Registers i = codes " " ++ register_text i.rd ++ comma ++ register_text i.rs1 ++ comma ++ register_text i.rs2
+fields_text operand Environment i = []
+
+-- the line of an instruction whose operand has this text
+abbrev pub instr_line : List ℕ → AsmInstr → List ℕ
+instr_line operand i = codes "\t" ++ name_text i.name ++ fields_text operand (form_of i.name) i ++ codes "\n"
 
 abbrev pub instr_text : List AsmFunction → AsmInstr → List ℕ
-instr_text functions i = codes "\t" ++ name_text i.name ++ fields_text functions (form_of i.name) i ++ codes "\n"
+instr_text functions i = instr_line (operand_text functions i.operand) i
+
+-- instructions, a line each
+abbrev pub code_text : List AsmFunction → List AsmInstr → List ℕ
+code_text functions code = flat_map (instr_text functions) code
 
 abbrev pub line_text : List AsmFunction → AsmLine → List ℕ
 line_text functions (Label function number) = label_text function number ++ codes ":\n"
@@ -137,70 +91,25 @@ item_text (Zero count) = codes "\t.zero " ++ decimal count ++ codes "\n"
 item_text (Byte value) = codes "\t.byte " ++ decimal value ++ codes "\n"
 item_text (Address offset) = codes "\t.word " ++ cdata_text offset ++ codes "\n"
 
--- the run begins here: it calls `main`, and ends with what `main` gives
-abbrev pub entry_text : List ℕ
-entry_text = concat (
-    codes "\t.text\n" ∷
-    codes "\t.globl _start\n" ∷
-    codes "_start:\n" ∷
-    codes "\tlui t0, %hi(c_main)\n" ∷
-    codes "\tjalr ra, %lo(c_main)(t0)\n" ∷
-    codes "\taddi a7, zero, 93\n" ∷
-    codes "\tecall\n" ∷ [])
+-- the start of the run, where the function `main` has this number
+abbrev pub entry_text : List AsmFunction → ℕ → List ℕ
+entry_text functions main = codes "\t.text\n\t.globl _start\n_start:\n" ++ code_text functions (entry_code main)
 
--- the address of the buffer byte into a1
-unfoldable pub buffer_text : ℕ → List ℕ
-buffer_text buffer = concat (
-    codes "\tlui a1, %hi(" ∷ cdata_text buffer ∷ codes ")\n" ∷
-    codes "\taddi a1, a1, %lo(" ∷ cdata_text buffer ∷ codes ")\n" ∷ [])
-
--- the routine that reads a byte, and gives -1 at the end of the input
+-- the routine that reads; its branch is printed with the label of the place that it goes to. The routines name no
+-- function.
 unfoldable pub getchar_text : ℕ → List ℕ
-getchar_text buffer = concat (
-    codes "c_getchar:\n" ∷
-    codes "\taddi a0, zero, 0\n" ∷
-    buffer_text buffer ∷
-    codes "\taddi a2, zero, 1\n" ∷
-    codes "\taddi a7, zero, 63\n" ∷
-    codes "\tecall\n" ∷
-    codes "\tbge zero, a0, .Lend\n" ∷
-    codes "\tlbu a0, 0(a1)\n" ∷
-    codes "\tjalr zero, 0(ra)\n" ∷
-    codes ".Lend:\n" ∷
-    codes "\taddi a0, zero, -1\n" ∷
-    codes "\tjalr zero, 0(ra)\n" ∷ [])
+getchar_text buffer =
+    symbol_text [] GetChar ++ codes ":\n"
+    ++ (code_text [] (getchar_asks buffer) ++ (instr_line (codes ".Lend") getchar_branch
+    ++ (code_text [] getchar_byte ++ (codes ".Lend:\n" ++ code_text [] getchar_end))))
 
--- the routine that writes a byte, and gives it back
+-- the routine that writes
 unfoldable pub putchar_text : ℕ → List ℕ
-putchar_text buffer = concat (
-    codes "c_putchar:\n" ∷
-    codes "\tandi t1, a0, 255\n" ∷
-    buffer_text buffer ∷
-    codes "\tsb t1, 0(a1)\n" ∷
-    codes "\taddi a0, zero, 1\n" ∷
-    codes "\taddi a2, zero, 1\n" ∷
-    codes "\taddi a7, zero, 64\n" ∷
-    codes "\tecall\n" ∷
-    codes "\taddi a0, t1, 0\n" ∷
-    codes "\tjalr zero, 0(ra)\n" ∷ [])
+putchar_text buffer = symbol_text [] PutChar ++ codes ":\n" ++ code_text [] (putchar_code buffer)
 
--- the head of every unit, where the buffer byte has this offset in the data
-abbrev pub start_text : ℕ → List ℕ
-start_text buffer = entry_text ++ getchar_text buffer ++ putchar_text buffer
-
--- how many bytes an item is
-abbrev pub item_size : DataItem → ℕ
-item_size (Zero count) = count
-item_size (Byte value) = 1
-item_size (Address offset) = 4
-
-abbrev pub data_size : List DataItem → ℕ
-data_size [] = 0
-data_size (item ∷ items) = item_size item + data_size items
-
--- the buffer byte is the last byte of the data
-abbrev pub buffer_offset : List DataItem → ℕ
-buffer_offset items = data_size items - 1
+-- the head of a unit, where `main` has this number and the buffer byte this offset in the data
+abbrev pub start_text : List AsmFunction → ℕ → ℕ → List ℕ
+start_text functions main buffer = entry_text functions main ++ getchar_text buffer ++ putchar_text buffer
 
 -- what stands before the items of the data section
 abbrev pub data_text : List ℕ
@@ -208,4 +117,4 @@ data_text = codes "\t.data\n\t.balign 16\ncdata:\n"
 
 -- the whole text
 unfoldable pub text_of : AsmUnit → List ℕ
-text_of asm = start_text (buffer_offset asm.items) ++ flat_map (function_text asm.functions) asm.functions ++ data_text ++ flat_map item_text asm.items
+text_of asm = start_text asm.functions (main_number asm.functions) (buffer_offset asm.items) ++ flat_map (function_text asm.functions) asm.functions ++ data_text ++ flat_map item_text asm.items

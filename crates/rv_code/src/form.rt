@@ -1,7 +1,6 @@
 // The forms of instructions.
 ghost use Rattle.std.specs.Prelude.{◌≡◌};
-ghost use Rattle.rv_code.specs.Forms.{form_of};
-ghost use Rattle.rv_code.specs.Text.{name_text};
+ghost use Rattle.rv_code.specs.Forms.{form_of, name_text};
 
 use crate::assembly::RvName;
 

@@ -1,6 +1,7 @@
 // The text of an instruction and of what it names.
 ghost use Rattle.std.specs.Prelude.{◌≡◌, ◌++◌, codes, OnOk};
-ghost use Rattle.rv_code.specs.Text.{register_text, cdata_text, symbol_text, label_text, operand_text, fields_text, instr_text, comma};
+ghost use Rattle.rv_code.specs.Registers.{register_text};
+ghost use Rattle.rv_code.specs.Text.{cdata_text, symbol_text, label_text, operand_text, fields_text, instr_text, comma};
 ghost use Rattle.rv_code.specs.Forms.{form_of};
 
 use crate::assembly::{AsmFunction, AsmInstr, Operand, Symbol};
@@ -26,7 +27,7 @@ fn put_fields(
     functions: &[AsmFunction],
     instr: &AsmInstr,
 ) -> Result<(), AllocError>
-    ensures { OnOk result (out.new ≡ out.old ++ fields_text functions.now (form_of instr.now.name) instr.now) }
+    ensures { OnOk result (out.new ≡ out.old ++ fields_text (operand_text functions.now instr.now.operand) (form_of instr.now.name) instr.now) }
 {
     let AsmInstr {
         name,

@@ -12,12 +12,13 @@
 // The invariant of a run: it comes from one state to another after at least some steps
 // (`proofs/Runs.antt`, `Comes`), and this composes. There is one lemma for each class of instruction.
 // `proofs/UnitStands.antt` has where the functions and the start-up code of a unit are.
-// `proofs/StartLines.antt`: the lines before the functions are the text of the instructions there, but for
-// the branch to `.Lend`. `proofs/RoutineRuns.antt`: what `_start`, `c_getchar` and `c_putchar` do, from any
-// state at the first instruction (and `_start` from the one behind its call), with the code in place; the
-// two routines change no register but t1, a0 to a2 and a7.
+// `proofs/StartLines.antt`: what is printed before the functions is the text of the instructions there.
+// `proofs/RoutineRuns.antt`: what `_start`, `c_getchar` and `c_putchar` do, from any state at the first
+// instruction (and `_start` from the one behind its call), with the code in place at a multiple of 4 and,
+// for the two routines, the buffer byte accessible; they change no register but t1, a0 to a2 and a7.
 //
-// The theorem, on `text_of`: the bytes are exactly the text of the unit, where it is well formed.
+// The theorem, on `text_of`: the bytes are exactly the text of the unit, where it is well formed. The law,
+// on `run_stays`: a run that has ended, or is stuck, is the same at every greater number of steps.
 //
 // Source: The RISC-V Instruction Set Manual, Volume I, edition of December 2019, 2 (RV32I) and 7
 // (M); the RISC-V Assembly Programmer's Manual, for the spelling of lines, the names of registers,
@@ -27,6 +28,7 @@
 mod assembly;
 mod form;
 mod instr;
+mod laws;
 mod machine;
 mod start;
 mod text;
@@ -36,5 +38,6 @@ pub use assembly::{
     RvName, Symbol,
 };
 pub use form::Form;
+pub use laws::run_stays;
 pub use machine::RvOutcome;
 pub use text::text_of;

@@ -1,6 +1,8 @@
 // The text before the functions: the start of the run, and the two routines.
-ghost use Rattle.std.specs.Prelude.{◌≡◌, ◌++◌, OnOk};
-ghost use Rattle.rv_code.specs.Text.{entry_text, buffer_text, getchar_text, putchar_text, start_text};
+ghost use Rattle.std.specs.Prelude.{◌≡◌, ◌++◌, [], ℕ, List, OnOk, codes, slice_get};
+ghost use Rattle.rv_code.specs.declared.assembly.AsmFunction.{AsmFunction};
+ghost use Rattle.rv_code.specs.Routines.{buffer_code};
+ghost use Rattle.rv_code.specs.Text.{name_of, code_text, entry_text, getchar_text, putchar_text, start_text};
 
 use crate::instr::put_cdata;
 use cp_base::Bytes;
@@ -8,7 +10,9 @@ use std::alloc::AllocError;
 
 // `buffer` is the offset of the buffer byte in the data.
 pub fn put_start(out: &mut Bytes, buffer: u128) -> Result<(), AllocError>
-    ensures { OnOk result (out.new ≡ out.old ++ start_text buffer) }
+    ensures { (functions : List AsmFunction) (main : ℕ)
+        → name_of (slice_get functions main) ≡ codes "main"
+        → OnOk result (out.new ≡ out.old ++ start_text functions main buffer) }
 {
     put_entry(out)?;
     put_getchar(out, buffer)?;
@@ -16,7 +20,9 @@ pub fn put_start(out: &mut Bytes, buffer: u128) -> Result<(), AllocError>
 }
 
 fn put_entry(out: &mut Bytes) -> Result<(), AllocError>
-    ensures { OnOk result (out.new ≡ out.old ++ entry_text) }
+    ensures { (functions : List AsmFunction) (main : ℕ)
+        → name_of (slice_get functions main) ≡ codes "main"
+        → OnOk result (out.new ≡ out.old ++ entry_text functions main) }
 {
     out.push_all(
         b"\t.text\n\
@@ -70,7 +76,7 @@ fn put_putchar(out: &mut Bytes, buffer: u128) -> Result<(), AllocError>
 }
 
 fn put_buffer_address(out: &mut Bytes, buffer: u128) -> Result<(), AllocError>
-    ensures { OnOk result (out.new ≡ out.old ++ buffer_text buffer) }
+    ensures { OnOk result (out.new ≡ out.old ++ code_text [] (buffer_code buffer)) }
 {
     out.push_all(b"\tlui a1, %hi(")?;
     put_cdata(out, buffer)?;

@@ -1,7 +1,8 @@
 // The text of a unit.
 ghost use Rattle.std.specs.Prelude.{◌≡◌, ◌++◌, OnOk, IfOk};
 ghost use Rattle.std.specs.List.{flat_map};
-ghost use Rattle.rv_code.specs.Text.{line_text, function_text, item_text, item_size, buffer_offset, text_of};
+ghost use Rattle.rv_code.specs.Sizes.{item_size, buffer_offset};
+ghost use Rattle.rv_code.specs.Text.{line_text, function_text, item_text, text_of};
 ghost use Rattle.rv_code.specs.WellFormed.{IsWellFormed};
 
 use crate::assembly::{AsmFunction, AsmLine, AsmUnit, DataItem};

@@ -1,7 +1,7 @@
 use Rattle.std.proofs.Common.{◌≤◌, [], arith, sym, ap}
 use Rattle.std.specs.Prelude.{unwrap_or}
 use Rattle.std.proofs.lemmas.Option.{slice_get_past}
-use Rattle.rv_code.specs.Text.{register_names}
+use Rattle.rv_code.specs.Registers.{register_names}
 use Rattle.rv_code.proofs.instr.register_name.Goals as goal
 
 -- there are 32 registers

@@ -1,8 +1,7 @@
-use Rattle.rv_code.specs.Text.{getchar_text}
 use Rattle.rv_code.proofs.Pieces.{three}
+use Rattle.rv_code.proofs.StartLines.{getchar_lines}
 use Rattle.rv_code.proofs.start.put_getchar.Goals as goal
 
 pub returns : goal.returns
-unfolding getchar_text
 returns c =
-    three c.push_all-2.result c.push_all-2.new.self _ _ _ _ _ _ c.in_ok-push_all.ensures.ok c.in_ok-put_buffer_address.ensures c.push_all-2.ensures.ok
+    three c.push_all-2.result c.push_all-2.new.self _ _ _ _ _ _ _ (getchar_lines c.args.buffer) c.in_ok-push_all.ensures.ok c.in_ok-put_buffer_address.ensures c.push_all-2.ensures.ok

@@ -1,5 +1,5 @@
 use Rattle.std.proofs.Common.{◌≡◌, ◌≤◌, ◌*◌, ◌^◌, take}
-use Rattle.rv_code.specs.Text.{data_size}
+use Rattle.rv_code.specs.Sizes.{data_size}
 use Rattle.rv_code.proofs.text.buffer_offset.Given as goal
 
 abbrev pub invariant-loop-item : goal.invariant-loop-item
