@@ -7,7 +7,7 @@ use Rattle.c_grammar.specs.Derivation as rule
 use Rattle.c_grammar.specs.Derivation.{Derives}
 use Rattle.c_grammar.specs.Answers.{Answer, found, wrong, deep, and_then}
 use Rattle.c_grammar.specs.Reading.{behind_one}
-use Rattle.c_grammar.proofs.CompleteStatementsLengths.{part_length, row_length}
+use Rattle.c_grammar.proofs.Found.Lengths.{part_length, row_length}
 use Rattle.c_grammar.proofs.KeptSteps.{Keeps, keeps_found, keeps_wrong, keeps_deep}
 
 unfoldable pub rest_of : {T : Type 0} → Answer T → List Token

@@ -13,7 +13,7 @@ use Rattle.c_grammar.proofs.SoundSteps.{mark_split, said}
 use Rattle.c_grammar.proofs.SoundExpressions.{IsSound}
 use Rattle.c_grammar.proofs.SoundDeclarators.{member_sound}
 use Rattle.c_grammar.proofs.SoundStatements.{declaration_sound, external_sound, statement_sound, label_sound}
-use Rattle.c_grammar.proofs.CompleteStatementsLengths.{declaration_length, external_length, statement_length, label_length}
+use Rattle.c_grammar.proofs.Found.Lengths.{declaration_length, external_length, statement_length, label_length}
 use Rattle.c_grammar.proofs.KeptSteps.{Keeps, keeps_as, keeps_same, keeps_less, keeps_then, keeps_here, keeps_token, keeps_at_end, keeps_if_first, keeps_behind}
 use Rattle.c_grammar.proofs.KeptFirst.{keeps_if_specifier, keeps_if_mark, label_first_decides, groups_end_by_first, standing_first}
 use Rattle.c_grammar.proofs.KeptExpressions.{IsKept, conditional_kept, assignment_kept}

@@ -7,8 +7,8 @@ use Rattle.c_grammar.specs.Derivation.{IsTreeOf}
 use Rattle.c_grammar.specs.Answers.{Answer, found, wrong, deep}
 use Rattle.c_grammar.specs.Reading.{read_unit}
 use Rattle.c_grammar.proofs.Budgets.{Finds, order}
-use Rattle.c_grammar.proofs.CompleteStatementsExternals.{unit_found}
-use Rattle.c_grammar.proofs.Completeness.{complete_row}
+use Rattle.c_grammar.proofs.Found.Externals.{unit_found}
+use Rattle.c_grammar.proofs.Found.Whole.{complete_row}
 
 pub unit_reads : (a : List Token) (t : Tree) → IsTreeOf a t → (d : ℕ) → Finds (read_unit d a) d (height t) t []
 unit_reads a t (rule.unit_of {ts = ts} l) d = unit_found a ts (complete_row l) d

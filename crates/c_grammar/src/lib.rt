@@ -22,13 +22,14 @@
 // place begin a list that has a tree. On `front_of_derivation`: what is derived is a front of the tokens, and
 // it is derived before each rest that begins with the same token.
 //
-// The proofs: `proofs/Sound*.antt` take a reading apart; `proofs/Complete.antt` says what a derivation
-// says of the reading, `proofs/Complete*.antt` has one case for each rule, and `proofs/Completeness.antt`
-// puts them together, over the steps of `proofs/Budgets.antt`. `proofs/Kept*.antt`: a reading depends on
+// The proofs: `proofs/Sound*.antt` take a reading apart; `proofs/Found` proves that what is derived is
+// found: `Claims.antt` says what a derivation says of the reading, `Whole.antt` puts the cases together, one
+// for each rule, over the steps of `proofs/Budgets.antt`. `proofs/Kept*.antt`: a reading depends on
 // the tokens before its place and, unless it is too deep, on the token at the place.
-// `proofs/Completion*.antt`: least completions. `proofs/Derived.antt` derives short lists where a rule is
-// easy to get wrong; `proofs/Refused.antt` says of parts what they cannot begin with and which trees they
-// cannot have; `proofs/SwitchKids.antt` says how labels and statements stand in a `switch`.
+// `proofs/TooDeep`: what completes the tokens before a place where the reading is too deep.
+// `proofs/Derived.antt` derives short lists where a rule is easy to get wrong; `proofs/Refused.antt` says of
+// parts what they cannot begin with and which trees they cannot have; `proofs/SwitchKids.antt` says how
+// labels and statements stand in a `switch`.
 // `proofs/Examples.antt` has short parts and their trees, for scopes and `switch`, `proofs/NoTrees.antt`
 // short units without a tree, `proofs/FaultPlaces.antt` places of faults in short units.
 //

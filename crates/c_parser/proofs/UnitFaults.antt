@@ -7,7 +7,7 @@ use Rattle.c_syntax.specs.Trees.{Tree, height}
 use Rattle.c_grammar.specs.Derivation.{IsTreeOf}
 use Rattle.c_grammar.specs.Answers.{Answer, found, wrong, deep}
 use Rattle.c_grammar.specs.Reading.{read_unit}
-use Rattle.c_grammar.proofs.Completions.{unit_completes}
+use Rattle.c_grammar.proofs.TooDeep.Whole.{unit_completes}
 use Rattle.c_grammar.proofs.CutLaw.{cut_deep, cut_wrong}
 use Rattle.c_grammar.proofs.Kept.{unit_kept}
 use Rattle.c_grammar.proofs.KeptSteps.{Keeps, keeps_found, keeps_wrong, keeps_deep}

@@ -1,4 +1,4 @@
-use Rattle.c_grammar.proofs.Completions.{unit_completes}
+use Rattle.c_grammar.proofs.TooDeep.Whole.{unit_completes}
 use Rattle.c_grammar.proofs.laws.completion.Goals as goal
 
 pub returns : goal.returns

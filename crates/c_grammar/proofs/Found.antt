@@ -1,0 +1,22 @@
+-- Each tree that is derived is found by the reading, where its height is within the budget.
+pub mod Claims
+pub mod Expressions
+pub mod Operators
+pub mod StatementSteps
+pub mod StatementFirsts
+pub mod Lengths
+pub mod Statements
+pub mod ForStatements
+pub mod StatementRows
+pub mod Declarations
+pub mod Externals
+pub mod TypeSteps
+pub mod TypeEnds
+pub mod TypeFronts
+pub mod Specs
+pub mod TypeRows
+pub mod Declarators
+pub mod VoidParameters
+pub mod DeclaratorCases
+pub mod Parameters
+pub mod Whole

@@ -1,0 +1,1 @@
+int putchar(int);int main(void){putchar(72);return 0;}
