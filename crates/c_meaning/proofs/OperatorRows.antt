@@ -4,7 +4,7 @@ use Rattle.std.proofs.Common.{◌≡◌, refl, ℕ, List, [], ◌∷◌, Option,
 use Rattle.std.specs.Prelude.{map}
 use Rattle.c_types.specs.declared.tree.COp.{COp}
 use Rattle.c_types.specs.declared.tree.COp.TheVariants.{AddS, AddU, SubS, SubU, MulS, MulU, DivS, DivU, RemS, RemU, ShlS, ShlU, ShrS, ShrU, LtS, LtU, LeS, LeU, GtS, GtU, GeS, GeU, And, Or, Xor, Eq, Ne}
-use Rattle.c_meaning.specs.Operators.{c_operator}
+use Rattle.c_types.specs.Operators.{c_operator}
 
 abbrev min : ℕ
 min = 0x8000_0000

@@ -10,7 +10,7 @@ use Rattle.c_types.specs.declared.tree.Stmt.{Stmt}
 use Rattle.c_types.specs.declared.tree.Func.{Func}
 use Rattle.c_types.specs.declared.tree.Unit.{Unit as Whole}
 use Rattle.c_types.specs.Forms.{ExprRow, no_exprs, an_expr, const, address, local, set_local, load, store, binary, convert, both, either, choose, seq, call, get_char, put_char, copy, StmtRow, no_stmts, a_stmt, GroupRow, no_groups, a_group, block, drop_expr, unset, return_with, if_else, loop, do_loop, break, continue, switch, groups}
-use Rattle.c_meaning.specs.Operators.{c_operator}
+use Rattle.c_types.specs.Operators.{c_operator}
 use Rattle.c_meaning.specs.Steps.{Step, pure, stop, ◌>>=◌, choice, known, turn, read_local, write_local, read_data, write_data, copy_data, read_byte, write_byte, is_true}
 use Rattle.c_meaning.specs.Meaning.{Flow, Normal, Breaks, Continues, Returns, used, if_normal, if_goes_on, passed, call_of, eval, eval_all, holds, dropped, returned, exec, exec_all, exec_from}
 

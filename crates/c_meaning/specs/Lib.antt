@@ -1,4 +1,3 @@
 pub mod Meaning
-pub mod Operators
 pub mod Runs
 pub mod Steps

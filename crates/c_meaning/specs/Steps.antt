@@ -6,7 +6,7 @@ use Rattle.run_model.specs.declared.outcome.Outcome.TheVariants.{Running, Undefi
 use Rattle.run_model.specs.Accesses.{loaded, stored, copied}
 use Rattle.run_model.specs.Stores.{World, Store, next_byte, byte_read, after_read, after_write, with_bytes}
 use Rattle.c_types.specs.declared.tree.COp.{COp}
-use Rattle.c_meaning.specs.Operators.{c_operator}
+use Rattle.c_types.specs.Operators.{c_operator}
 
 -- what a run has at a moment: the store, and the locals of the present call, each with its value or unset
 pub record State : Type 0 where

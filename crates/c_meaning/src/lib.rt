@@ -1,8 +1,8 @@
 // What a typed unit means: the runs of C99, over a number of turns and at a depth.
 //
-// In comes nothing and out goes nothing: the crate has definitions, and laws of them. `specs/Operators.antt` has the
-// operators of C, `specs/Steps.antt` the steps of a run, `specs/Meaning.antt` the step that each expression and each
-// statement is, and `specs/Runs.antt` the run of a unit, with its outcome and its output.
+// In comes nothing and out goes nothing: the crate has definitions, and laws of them. `specs/Steps.antt` has the steps of a
+// run, `specs/Meaning.antt` the step that each expression and each statement is, and `specs/Runs.antt` the run of a unit,
+// with its outcome and its output. The operators of C are those of `c_types`.
 //
 // The idea: a meaning is a function of the tree and of the state, and it recurses on the turns and then on the tree.
 // An interpreter and the translation to graphs both stand on it.

@@ -1,5 +1,6 @@
 pub mod Forms
 pub mod InOrder
+pub mod Operators
 pub mod Sizes
 pub mod Tables
 pub mod Kept
