@@ -9,7 +9,8 @@
 // data are zeros, over which the cells are written. `specs/InOrder.antt` has that rule, `specs/Sizes.antt` the sizes of
 // types, `specs/Tables.antt` how a table changes, `specs/Placing.antt` places and bytes. A unit is plain data:
 // `specs/Forms.antt` names each form of its trees, so that definitions match on them, `specs/Every.antt` says what holds
-// of all trees of a unit, and `specs/WellMade.antt` which units are well made. `specs/Operators.antt` has the operators of C on words.
+// of all trees of a unit, `specs/WellMade.antt` which units are well made, and `specs/Operators.antt` what the operators of
+// C give of words.
 //
 // The invariant of a table, which contracts see as its kinds and the members of its structs: what stands beside a kind or
 // in a struct is its size and alignment by the definition, and is within the limit of 16,777,216 bytes.
