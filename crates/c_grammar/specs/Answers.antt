@@ -1,4 +1,5 @@
--- What a reading function answers, and how readings follow one another.
+-- What a reading function answers, and how readings follow one another. These serve the reading function, and so laws and inner
+-- functions alone.
 use Rattle.std.specs.Prelude.{ℕ, Bool, List, [], ◌∷◌, if◌then◌else◌, nat_lt}
 use Rattle.std.specs.Str.{bytes_eq}
 use Rattle.c_lexer.specs.declared.token.IntType.{IntType}

@@ -1,4 +1,5 @@
--- A function that reads the tree of a part, with a budget for its height.
+-- A function that reads the tree of a part, with a budget for its height. It serves laws and inner functions alone: a reader of
+-- the contracts of `one_tree` and of `parse` need not read it.
 use Rattle.std.specs.Prelude.{ℕ, zero, suc, Bool, true, false, List, [], ◌∷◌, ◌++◌, length, ◌==◌, ◌||◌, ◌&&◌, not, if◌then◌else◌, codes}
 use Rattle.std.specs.Str.{bytes_eq}
 use Rattle.c_lexer.specs.declared.token.Punct.{Punct}

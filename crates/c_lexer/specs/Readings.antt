@@ -1,4 +1,5 @@
--- What the inner functions read. These serve inner functions alone: a reader of the public contracts need not read them.
+-- What the inner functions of the lexer read. These serve inner functions alone: a reader of the public contracts need not read
+-- them.
 use Rattle.std.specs.Prelude.{◌≡◌, ℕ, ◌-◌, ◌<◌, ◌⊎◌, Bool, true, List, [], ◌∷◌, length, map, take, drop, reverse, slice_index, ◌==◌, ◌&&◌, nat_le, nat_lt, Option, Some, None, option_map, option_and_then, find, codes, if◌then◌else◌}
 use Rattle.std.specs.List.{list_all, prefix_len}
 use Rattle.std.specs.Str.{bytes_eq}

@@ -1,4 +1,5 @@
--- Parts of readings, by the names and the tokens at their place. These serve the parser's inner functions alone.
+-- Parts of readings, by the names and the tokens at their place. These serve the parser's inner functions alone:
+-- a reader of the contract of `parse` need not read them.
 use Rattle.std.specs.Prelude.{◌&&◌, ◌||◌, not, if◌then◌else◌, ⊤, ◌⊎◌, ◌<◌, ℕ, suc, Bool, true, false, List, length, codes}
 use Rattle.c_lexer.specs.declared.token.Token.{Token}
 use Rattle.c_lexer.specs.declared.token.Punct.{Punct}

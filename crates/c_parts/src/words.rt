@@ -1,12 +1,108 @@
 // Words and operators by what the grammar takes them for.
-ghost use Rattle.std.specs.Prelude.{◌≡◌, ◌<◌};
+ghost use Rattle.std.specs.Prelude.{◌≡◌, ◌<◌, [], get_or, length, map};
 ghost use Rattle.c_grammar.specs.Vocabulary as vocabulary;
 ghost use Rattle.c_parts.specs.Slots.{slot_of};
 
 use c_lexer::Punct;
 
 // Each keyword at its slot; the other slots are empty.
-const KEYWORDS: [&str; 95] = ["static", "signed", "return", "sizeof", "if", "switch", "", "inline", "register", "", "restrict", "", "", "typedef", "", "", "short", "struct", "_Bool", "int", "", "unsigned", "", "", "", "", "void", "", "union", "", "", "volatile", "", "_Complex", "long", "", "_Imaginary", "while", "auto", "", "", "", "", "", "break", "", "case", "", "", "", "continue", "", "", "", "", "", "", "double", "", "char", "", "", "const", "do", "else", "", "", "", "", "", "", "", "enum", "default", "", "extern", "", "", "", "", "", "", "", "", "", "for", "", "", "", "float", "", "", "goto", "", ""];
+const KEYWORDS: [&str; 95] = [
+    "static",
+    "signed",
+    "return",
+    "sizeof",
+    "if",
+    "switch",
+    "",
+    "inline",
+    "register",
+    "",
+    "restrict",
+    "",
+    "",
+    "typedef",
+    "",
+    "",
+    "short",
+    "struct",
+    "_Bool",
+    "int",
+    "",
+    "unsigned",
+    "",
+    "",
+    "",
+    "",
+    "void",
+    "",
+    "union",
+    "",
+    "",
+    "volatile",
+    "",
+    "_Complex",
+    "long",
+    "",
+    "_Imaginary",
+    "while",
+    "auto",
+    "",
+    "",
+    "",
+    "",
+    "",
+    "break",
+    "",
+    "case",
+    "",
+    "",
+    "",
+    "continue",
+    "",
+    "",
+    "",
+    "",
+    "",
+    "",
+    "double",
+    "",
+    "char",
+    "",
+    "",
+    "const",
+    "do",
+    "else",
+    "",
+    "",
+    "",
+    "",
+    "",
+    "",
+    "",
+    "enum",
+    "default",
+    "",
+    "extern",
+    "",
+    "",
+    "",
+    "",
+    "",
+    "",
+    "",
+    "",
+    "",
+    "for",
+    "",
+    "",
+    "",
+    "float",
+    "",
+    "",
+    "goto",
+    "",
+    "",
+];
 
 const TYPE_WORDS: [&str; 8] = [
     "void", "char", "short", "int", "long", "signed", "unsigned", "_Bool",
@@ -18,7 +114,15 @@ const STORAGE_WORDS: [&str; 6] = ["typedef", "extern", "static", "auto", "regist
 pub fn is_identifier(text: &str) -> bool
     ensures { result ≡ vocabulary.is_identifier text.now }
 {
-    KEYWORDS[slot_of(text.as_bytes())] != text
+    word_at(&KEYWORDS, slot_of(text.as_bytes())) != text
+}
+
+// What stands at a slot of a table.
+fn word_at(table: &[&'static str], slot: usize) -> &'static str
+    requires { slot < length table.now }
+    ensures { result.now ≡ get_or (map (λ word. word.now) table.now) slot [] }
+{
+    table[slot]
 }
 
 // The place of a word in the table of keywords, by its length and its first and last byte. No two keywords have the same.
