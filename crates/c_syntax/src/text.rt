@@ -9,8 +9,8 @@ use crate::syntax::{MAX_HEIGHT, SynId, SynNode, Syntax};
 use cp_base::Bytes;
 use std::alloc::{AllocError, Global};
 
-// The indent of the lowest line that a tree can have.
-static BLANKS: [u8; 1000] = [b' '; 1000];
+// Two blanks for each level that a tree can have.
+static BLANKS: [u8; 2 * MAX_HEIGHT] = [b' '; 2 * MAX_HEIGHT];
 
 /// A line for each node, the root first, with two blanks of indent for each level: the word of its
 /// kind, and then its text or number; for a string its length.
