@@ -5,7 +5,7 @@ use Rattle.c_lexer.specs.declared.token.Punct.TheVariants.{LeftBracket, RightBra
 use Rattle.c_lexer.specs.declared.token.Token.{Token}
 use Rattle.c_lexer.specs.declared.token.TokenKind.{TokenKind}
 use Rattle.c_lexer.specs.declared.token.TokenKind.TheVariants as token
-use Rattle.c_lexer.specs.Dump.{mark_text}
+use Rattle.c_lexer.specs.Marks.{mark_text}
 use Rattle.c_syntax.specs.declared.kind.SynKind.TheVariants as kind
 use Rattle.c_syntax.specs.Trees.{Tree, ◌then◌, one, two, text_node, plain_node, string_node, height}
 use Rattle.c_grammar.specs.Vocabulary.{Place, mark, word, integer, character, is_unary_operator, is_assignment, level_of}

@@ -4,12 +4,12 @@ use Rattle.std.proofs.lemmas.Bool.Decides.{nat_tests}
 use Rattle.std.proofs.lemmas.Slice.Eq.{bytes_eq-Decides}
 use Rattle.c_lexer.specs.declared.token.IntType.{IntType}
 use Rattle.c_lexer.specs.declared.token.Punct.{Punct}
-use Rattle.c_lexer.specs.declared.token.Punct.TheVariants.{Comma}
 use Rattle.c_lexer.specs.declared.token.Token.{Token}
 use Rattle.c_lexer.specs.declared.token.TokenKind.{TokenKind}
 use Rattle.c_lexer.specs.declared.token.TokenKind.TheVariants as token
-use Rattle.c_lexer.specs.Dump.{mark_text}
-use Rattle.c_lexer.specs.Marks.{mark_of}
+use Rattle.c_lexer.specs.Marks.{mark_text}
+use Rattle.c_lexer.proofs.MarkTexts.{mark_read}
+use Rattle.c_lexer.specs.Readings.{mark_of}
 use Rattle.c_syntax.specs.Trees.{Tree, Forest, height, forest_height}
 use Rattle.c_grammar.specs.Vocabulary.{Place, mark, word, integer, character, string, is_identifier}
 use Rattle.c_grammar.specs.Answers.{Answer, found, wrong, deep, and_then, fit, Ahead, nothing_ahead, mark_ahead, word_ahead, integer_ahead, character_ahead, string_ahead, ahead, ahead_by, same_mark, expect, expect_by, expect_word, expect_word_by, expect_identifier, expect_identifier_by}
@@ -107,13 +107,10 @@ ahead_is (t ∷ rest) = ahead_is_by t.kind (record { start = t.start; end = t.en
 
 -- ---- marks and words
 
-mark_read_back : (p : Punct) → mark_of (mark_text p) ≡ Some p
-mark_read_back = elim [ Comma ↦ refl | _ ↦ refl ]
-
 pub mark_is : (p q : Punct) → same_mark p q ≡ true → p ≡ q
 mark_is p q e =
     let texts : mark_text p ≡ mark_text q = (bytes_eq-Decides (mark_text p) (mark_text q)).0 e in
-    let same : Some p ≡ Some q = sym (mark_read_back p) ∙ (ap mark_of texts ∙ mark_read_back q) in
+    let same : Some p ≡ Some q = sym (mark_read p) ∙ (ap mark_of texts ∙ mark_read q) in
     cc
 
 pub word_is : (text other : List ℕ) → bytes_eq text other ≡ true → text ≡ other

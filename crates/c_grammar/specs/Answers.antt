@@ -1,4 +1,5 @@
--- What a reading function answers, and how readings follow one another.
+-- What a reading function answers, and how readings follow one another. These serve the reading function, and so laws and inner
+-- functions alone.
 use Rattle.std.specs.Prelude.{ℕ, Bool, List, [], ◌∷◌, if◌then◌else◌, nat_lt}
 use Rattle.std.specs.Str.{bytes_eq}
 use Rattle.c_lexer.specs.declared.token.IntType.{IntType}
@@ -6,7 +7,7 @@ use Rattle.c_lexer.specs.declared.token.Punct.{Punct}
 use Rattle.c_lexer.specs.declared.token.Token.{Token}
 use Rattle.c_lexer.specs.declared.token.TokenKind.{TokenKind}
 use Rattle.c_lexer.specs.declared.token.TokenKind.TheVariants as token
-use Rattle.c_lexer.specs.Dump.{mark_text}
+use Rattle.c_lexer.specs.Marks.{mark_text}
 use Rattle.c_grammar.specs.Vocabulary.{Place, is_identifier}
 
 -- what was read, and the tokens behind it; or that the first of these tokens cannot stand there; or that the tokens before

@@ -1,4 +1,4 @@
--- What it means that a reader has found a tree, or trees, for a goal.
+-- What it means that a reader has found a tree, or trees, for a goal. These serve the law `found_is_derived` alone.
 use Rattle.std.specs.Prelude.{◌≡◌, true, false, List, ◌∷◌}
 use Rattle.c_lexer.specs.declared.token.Punct.TheVariants.{LeftBrace, RightBrace}
 use Rattle.c_lexer.specs.declared.token.Token.{Token}

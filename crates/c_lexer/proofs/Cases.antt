@@ -5,13 +5,15 @@ use Rattle.c_lexer.specs.declared.token.Punct.TheVariants as mark
 use Rattle.c_lexer.specs.declared.token.Token.{Token}
 use Rattle.c_lexer.specs.declared.token.TokenKind.{TokenKind}
 use Rattle.c_lexer.specs.declared.token.TokenKind.TheVariants as kind
-use Rattle.c_lexer.specs.Literals.{middle, StandsFor, nothing, plain, hexadecimal, octal}
-use Rattle.c_lexer.specs.Spellings.{is_spelling, IsToken, word, integer, character, string, punctuator}
+use Rattle.c_lexer.specs.Literals.{StandsFor, nothing, plain, hexadecimal, octal}
+use Rattle.c_lexer.specs.Numbers as number
+use Rattle.c_lexer.specs.Spellings.{IsToken, word, integer, character, string, punctuator}
 use Rattle.c_lexer.specs.Tokens.{begins_comment, has_close, IsPiece, blank, line_comment, block_comment, skipped_line, token, Reaches, here, piece, HasTokens, IsLexical}
 use Rattle.c_lexer.proofs.OneToken as one
 use Rattle.c_lexer.proofs.OneList as list
 use Rattle.c_lexer.specs.Readings.{HasNoPiece}
 use Rattle.c_lexer.proofs.Steps.{is_lexical, is_longest, longest}
+use Rattle.c_lexer.proofs.Tests.{middle, is_spelling, literal_middle}
 use Rattle.c_lexer.proofs.TokensAt.{no_constant}
 
 abbrev at : TokenKind → ℕ → ℕ → Token
@@ -59,7 +61,7 @@ hexadecimal-escape : HasTokens (codes "'\\x41'") (at (kind.Char 65) 0 6 ∷ [])
 unfolding is_spelling
 hexadecimal-escape =
     piece 0 6 6 _ _ (token_here _ 0 6 (kind.Char 65) refl refl
-    (character (codes "'\\x41'") 65 refl (hexadecimal (codes "x41") (codes "41") [] [] refl (record { some = lit≤ tt; each = (refl, (refl, tt)); whole = tt }) (lit≤ tt) nothing)))
+    (character (codes "'\\x41'") (codes "\\x41") 65 (record { split = refl; allowed = refl }) (hexadecimal (codes "x41") (codes "41") [] [] refl (record { some = lit≤ tt; each = (refl, (refl, tt)); whole = tt }) (lit≤ tt) nothing)))
     (here 6)
 
 -- `"\1234"`: the octal escape has three digits
@@ -67,18 +69,46 @@ octal-escape : HasTokens (codes "\"\\1234\"") (at (kind.Str (83 ∷ 52 ∷ [])) 
 unfolding is_spelling
 octal-escape =
     piece 0 7 7 _ _ (token_here _ 0 7 (kind.Str (83 ∷ 52 ∷ [])) refl refl
-    (string (codes "\"\\1234\"") (83 ∷ 52 ∷ []) refl (octal (codes "1234") (codes "123") (codes "4") (52 ∷ []) refl (record { some = lit≤ tt; most = lit≤ tt; each = (refl, (refl, (refl, tt))); whole = inl refl }) (lit≤ tt)
+    (string (codes "\"\\1234\"") (codes "\\1234") (83 ∷ 52 ∷ []) (record { split = refl; allowed = refl }) (octal (codes "1234") (codes "123") (codes "4") (52 ∷ []) refl (record { some = lit≤ tt; most = lit≤ tt; each = (refl, (refl, (refl, tt))); whole = inl refl }) (lit≤ tt)
     (plain 52 [] [] refl nothing))))
     (here 7)
+
+hexadecimal-e : number.IsConstant (codes "0xE") 14 Int
+hexadecimal-e = record {
+  front = codes "0x";
+  digits = codes "E";
+  suffix = [];
+  split = refl;
+  base = 16;
+  numeral = number.hexadecimal 120 69 [] refl refl refl;
+  ending = record { has_u = false; has_l = false };
+  suffix_is = refl;
+  value_is = refl;
+  type_is = refl;
+}
+
+decimal-one : number.IsConstant (codes "1") 1 Int
+decimal-one = record {
+  front = [];
+  digits = codes "1";
+  suffix = [];
+  split = refl;
+  base = 10;
+  numeral = number.decimal 49 [] refl refl;
+  ending = record { has_u = false; has_l = false };
+  suffix_is = refl;
+  value_is = refl;
+  type_is = refl;
+}
 
 -- `0xE +1`
 run-ends-at-a-blank : HasTokens (codes "0xE +1") (at (kind.Int 14 Int) 0 3 ∷ at (kind.Punct mark.Plus) 4 5 ∷ at (kind.Int 1 Int) 5 6 ∷ [])
 unfolding is_spelling
 run-ends-at-a-blank =
-    piece 0 3 6 _ _ (token_here _ 0 3 (kind.Int 14 Int) refl refl (integer (codes "0xE") 14 Int refl refl))
+    piece 0 3 6 _ _ (token_here _ 0 3 (kind.Int 14 Int) refl refl (integer (codes "0xE") 14 Int refl hexadecimal-e))
     (piece 3 1 6 _ _ (blank 32 (codes "+1") refl refl)
     (piece 4 1 6 _ _ (token_here _ 4 1 (kind.Punct mark.Plus) refl refl (punctuator (codes "+") mark.Plus refl))
-    (piece 5 1 6 _ _ (token_here _ 5 1 (kind.Int 1 Int) refl refl (integer (codes "1") 1 Int refl refl))
+    (piece 5 1 6 _ _ (token_here _ 5 1 (kind.Int 1 Int) refl refl (integer (codes "1") 1 Int refl decimal-one))
     (here 6))))
 
 -- ---- places that have none
@@ -115,8 +145,8 @@ empty-character = is_lexical (codes "''") 0 [] (lit< tt) (here 0) (no_token_here
     other : (t : List ℕ) (l : TokenKind) (q : IsToken t l) → middle t ≡ [] → 2 ≡ one.token_class t l q → ⊥
     other _ _ (word t h) m i = omega (arith, i)
     other _ _ (integer t v y h e) m i = omega (arith, i)
-    other _ _ (character t v h s) m i = no_value v (subst (λ x. StandsFor x (v ∷ [])) m s)
-    other _ _ (string t bs h s) m i = omega (arith, i)
+    other _ _ (character t j v h s) m i = no_value v (subst (λ x. StandsFor x (v ∷ [])) (sym (literal_middle 39 j t h) ∙ m) s)
+    other _ _ (string t j bs h s) m i = omega (arith, i)
     other _ _ (punctuator t p h) m i = omega (arith, i)
 
     none : (k : TokenKind) → IsToken (codes "''") k → ⊥

@@ -6,10 +6,11 @@ use Rattle.std.proofs.lemmas.Bool.Decides.{nat_tests}
 use Rattle.std.proofs.lemmas.Slice.Eq.{bytes_eq-Decides}
 use Rattle.c_lexer.specs.declared.token.Punct.{Punct}
 use Rattle.c_lexer.specs.Characters.{is_blank, is_nondigit}
-use Rattle.c_lexer.specs.Marks.{marks, mark_of}
+use Rattle.c_lexer.specs.Readings.{marks, mark_of}
 use Rattle.c_lexer.specs.Numbers.{begins_number, is_number_run}
-use Rattle.c_lexer.specs.Literals.{is_literal, single_quote, double_quote}
-use Rattle.c_lexer.specs.Spellings.{is_word, is_spelling}
+use Rattle.c_lexer.specs.Literals.{single_quote, double_quote}
+use Rattle.c_lexer.specs.Spellings.{is_word}
+use Rattle.c_lexer.proofs.Tests.{is_literal, is_spelling}
 
 -- ---- tests
 

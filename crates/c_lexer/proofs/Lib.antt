@@ -10,3 +10,7 @@ pub mod Longest
 pub mod TokensAt
 pub mod Blanks
 pub mod MarkTexts
+pub mod Tests
+pub mod Constants
+pub mod Spelled
+pub mod Rows

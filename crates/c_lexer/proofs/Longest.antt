@@ -1,17 +1,18 @@
 -- The longest spelling, by the class of the text.
-use Rattle.std.proofs.Common.{◌≡◌, ℕ, zero, suc, ◌+◌, ◌-◌, ◌<◌, ◌≤◌, ◌⊎◌, inl, inr, Bool, true, false, cond, List, [], ◌∷◌, ◌==◌, ◌||◌, ◌&&◌, not, Option, Some, None, is_some, refl, sym, ap, ◌∙◌, subst, arith, length, take, drop, nat_le, get_or, slice_index, get_or-take}
+use Rattle.std.proofs.Common.{◌≡◌, ℕ, zero, suc, ◌+◌, ◌-◌, ◌<◌, ◌≤◌, ◌⊎◌, inl, inr, Bool, true, false, cond, List, [], ◌∷◌, ◌==◌, ◌||◌, ◌&&◌, not, Option, Some, None, is_some, refl, sym, ap, ◌∙◌, subst, arith, length, take, drop, slice_index}
 use Rattle.std.specs.List.{list_all, prefix_len, zip}
 use Rattle.std.proofs.lemmas.Bool.Decides.{nat_tests}
-use Rattle.std.proofs.lemmas.List.{length-take-le, take-take}
 use Rattle.std.proofs.lemmas.List.Sums.{prefix_len-le-length}
 use Rattle.c_lexer.specs.declared.token.Punct.{Punct}
 use Rattle.c_lexer.specs.Characters.{newline, is_nondigit, is_digit, is_word_byte}
-use Rattle.c_lexer.specs.Marks.{mark_of}
+use Rattle.c_lexer.specs.Readings.{mark_of}
 use Rattle.c_lexer.specs.Numbers.{begins_number, continues_number, is_number_run}
-use Rattle.c_lexer.specs.Literals.{backslash, is_inside, is_literal, single_quote, double_quote}
-use Rattle.c_lexer.specs.Spellings.{is_word, is_spelling, IsLongest}
+use Rattle.c_lexer.specs.Literals.{backslash, is_inside, single_quote, double_quote}
+use Rattle.c_lexer.specs.Spellings.{is_word, IsLongest}
 use Rattle.c_lexer.proofs.Fronts.{both}
 use Rattle.c_lexer.proofs.Insides.{front_past, inside_append}
+use Rattle.c_lexer.proofs.Tests.{is_literal, is_spelling, literal_front}
+use Rattle.c_lexer.proofs.Spelled.{passes, longest_by_test}
 use Rattle.c_lexer.proofs.OneToken.{class_of, by_tests, word_class, number_class, character_class, string_class, punctuator_class}
 
 -- ---- spellings of a class
@@ -112,12 +113,11 @@ past_fails p (x ∷ xs) (suc j) lt le = at (past_fails p xs j) (p x) refl
 -- ---- words
 
 pub word_longest : (a : ℕ) (rest : List ℕ) → is_nondigit a ≡ true → IsLongest (a ∷ rest) (suc (prefix_len is_word_byte rest))
-word_longest a rest h = record {
-  some = omega arith;
-  within = let within = prefix_len-le-length is_word_byte rest in omega (arith, within);
-  spelled = spelled_as_word (a ∷ take size rest) (class size) ∙ ap (λ t. t && list_all is_word_byte (take size rest)) h ∙ front_passes is_word_byte rest;
-  longest = λ m lt le. longer m lt le;
-}
+word_longest a rest h = longest_by_test (a ∷ rest) (suc (prefix_len is_word_byte rest))
+    (omega arith)
+    (let within = prefix_len-le-length is_word_byte rest in omega (arith, within))
+    (spelled_as_word (a ∷ take size rest) (class size) ∙ ap (λ t. t && list_all is_word_byte (take size rest)) h ∙ front_passes is_word_byte rest)
+    (λ m lt le. longer m lt le)
   where
     size : ℕ
     size = prefix_len is_word_byte rest
@@ -197,12 +197,11 @@ module _ (a : ℕ) (rest : List ℕ) (h : begins_number (a ∷ rest) ≡ true) w
   number_run = run (prefix_len continues_number pairs) ∙ ap (λ t. t && list_all continues_number (take (prefix_len continues_number pairs) pairs)) (begins (prefix_len continues_number pairs) starts) ∙ front_passes continues_number pairs
 
   pub number_longest : IsLongest (a ∷ rest) (suc (prefix_len continues_number pairs))
-  number_longest = record {
-    some = omega arith;
-    within = let within = prefix_len-le-length continues_number pairs in omega (arith, within, zip_length a rest);
-    spelled = spelled_as_number (a ∷ take size rest) (number_class_of size starts) ∙ number_run;
-    longest = λ m lt le. longer m lt le;
-  }
+  number_longest = longest_by_test (a ∷ rest) (suc (prefix_len continues_number pairs))
+      (omega arith)
+      (let within = prefix_len-le-length continues_number pairs in omega (arith, within, zip_length a rest))
+      (spelled_as_number (a ∷ take size rest) (number_class_of size starts) ∙ number_run)
+      (λ m lt le. longer m lt le)
     where
       size : ℕ
       size = prefix_len continues_number pairs
@@ -223,28 +222,6 @@ quote_stops quote (c ∷ rest) h =
     ap (λ t. (t && (not (c == newline) && is_inside quote rest)) || (not (quote == quote || (quote == newline || quote == backslash)) && is_inside quote (c ∷ rest))) h
     ∙ ap (λ t. t && is_inside quote (c ∷ rest)) plain
 
--- the parts of the test of a literal, by its length
-parts_of : ℕ → ℕ → List ℕ → Bool
-parts_of quote size xs = nat_le 2 size && (quote == quote && (get_or (quote ∷ xs) (size - 1) 0 == quote && is_inside quote (take (size - 2) xs)))
-
-literal_front : (quote : ℕ) (rest : List ℕ) (n : ℕ) → n < length rest → is_literal quote (quote ∷ take (suc n) rest) ≡ (slice_index rest n == quote && is_inside quote (take n rest))
-unfolding parts_of
-literal_front quote rest n lt =
-    let size : length (quote ∷ take (suc n) rest) ≡ n + 2 = omega (arith, length-take-le (suc n) rest (omega (arith, lt))) in
-    let two : nat_le 2 (n + 2) ≡ true = grind (arith, nat_tests) in
-    let same : (quote == quote) ≡ true = grind (arith, nat_tests) in
-    let one_less : n + 2 - 1 ≡ suc n = omega arith in
-    let two_less : n + 2 - 2 ≡ n = omega arith in
-    let last : get_or (quote ∷ take (suc n) rest) (n + 2 - 1) 0 ≡ slice_index rest n =
-    ap (λ j. get_or (quote ∷ take (suc n) rest) j 0) one_less ∙ get_or-take (suc n) rest n 0 (omega arith) in
-    let inside : take (n + 2 - 2) (take (suc n) rest) ≡ take n rest =
-    ap (λ j. take j (take (suc n) rest)) two_less ∙ take-take n (suc n) rest (omega arith) in
-    ap (λ j. parts_of quote j (take (suc n) rest)) size
-    ∙ ap (λ t. t && (quote == quote && (get_or (quote ∷ take (suc n) rest) (n + 2 - 1) 0 == quote && is_inside quote (take (n + 2 - 2) (take (suc n) rest))))) two
-    ∙ ap (λ t. t && (get_or (quote ∷ take (suc n) rest) (n + 2 - 1) 0 == quote && is_inside quote (take (n + 2 - 2) (take (suc n) rest)))) same
-    ∙ ap (λ b. b == quote && is_inside quote (take (n + 2 - 2) (take (suc n) rest))) last
-    ∙ ap (λ xs. slice_index rest n == quote && is_inside quote xs) inside
-
 module _ (quote k : ℕ) (other : (quote == backslash) ≡ false) (class : (xs : List ℕ) → class_of (quote ∷ xs) ≡ k)
     (spelled : (text : List ℕ) → class_of text ≡ k → is_spelling text ≡ is_literal quote text) (rest : List ℕ) where
   front : (n : ℕ) → n < length rest → is_spelling (quote ∷ take (suc n) rest) ≡ (slice_index rest n == quote && is_inside quote (take n rest))
@@ -254,12 +231,11 @@ module _ (quote k : ℕ) (other : (quote == backslash) ≡ false) (class : (xs :
   short = spelled (quote ∷ []) (class [])
 
   pub literal_longest : (n : ℕ) → n < length rest → slice_index rest n ≡ quote → is_inside quote (take n rest) ≡ true → IsLongest (quote ∷ rest) (suc (suc n))
-  literal_longest n lt closes inside = record {
-    some = omega arith;
-    within = omega (arith, lt);
-    spelled = let last : (slice_index rest n == quote) ≡ true = grind (arith, nat_tests) in front n lt ∙ ap (λ t. t && is_inside quote (take n rest)) last ∙ inside;
-    longest = λ m less le. longer m less le;
-  }
+  literal_longest n lt closes inside = longest_by_test (quote ∷ rest) (suc (suc n))
+      (omega arith)
+      (omega (arith, lt))
+      (let last : (slice_index rest n == quote) ≡ true = grind (arith, nat_tests) in front n lt ∙ ap (λ t. t && is_inside quote (take n rest)) last ∙ inside)
+      (λ m less le. longer m less le)
     where
       past : (j : ℕ) → n < j → j < length rest → is_inside quote (take j rest) ≡ false
       past j less within =
@@ -283,11 +259,11 @@ module _ (quote k : ℕ) (other : (quote == backslash) ≡ false) (class : (xs :
 
   pub literal_none : ((n : ℕ) → n < length rest → slice_index rest n ≡ quote → is_inside quote (take n rest) ≡ true → ⊥) → (n : ℕ) → IsLongest (quote ∷ rest) n → ⊥
   literal_none none zero l = let some = l.some in omega (arith, some)
-  literal_none none (suc zero) l = absurd (cc (sym short ∙ l.spelled))
+  literal_none none (suc zero) l = absurd (cc (sym short ∙ passes (quote ∷ []) l.spelled))
   literal_none none (suc (suc j)) l =
       let within = l.within in
       let lt : j < length rest = omega (arith, within) in
-      let parts = both (slice_index rest j == quote) _ (sym (front j lt) ∙ l.spelled) in
+      let parts = both (slice_index rest j == quote) _ (sym (front j lt) ∙ passes (quote ∷ take (suc j) rest) l.spelled) in
       let test = parts.0 in
       none j lt (grind (arith, nat_tests)) parts.1
 
@@ -312,12 +288,11 @@ module _ (a : ℕ) (rest : List ℕ) (no_digit : is_nondigit a ≡ false) (no_si
 
   pub mark_longest : (n : ℕ) (mark : Punct) → 0 < n → n ≤ length (a ∷ rest) → mark_of (take n (a ∷ rest)) ≡ Some mark → ((k : ℕ) → n < k → k ≤ length (a ∷ rest) → mark_of (take k (a ∷ rest)) ≡ None) → IsLongest (a ∷ rest) n
   mark_longest zero mark some within is longer = absurd (omega (arith, some))
-  mark_longest (suc j) mark some within is longer = record {
-    some = some;
-    within = within;
-    spelled = mark_front j ∙ ap is_some is;
-    longest = λ m less le. past m less le;
-  }
+  mark_longest (suc j) mark some within is longer = longest_by_test (a ∷ rest) (suc j)
+      (some)
+      (within)
+      (mark_front j ∙ ap is_some is)
+      (λ m less le. past m less le)
     where
       past : (m : ℕ) → suc j < m → m ≤ length (a ∷ rest) → is_spelling (take m (a ∷ rest)) ≡ false
       past zero less le = absurd (omega (arith, less))
@@ -325,7 +300,7 @@ module _ (a : ℕ) (rest : List ℕ) (no_digit : is_nondigit a ≡ false) (no_si
 
   pub mark_none : ((k : ℕ) → k ≤ length (a ∷ rest) → mark_of (take k (a ∷ rest)) ≡ None) → (n : ℕ) → IsLongest (a ∷ rest) n → ⊥
   mark_none none zero l = let some = l.some in omega (arith, some)
-  mark_none none (suc j) l = absurd (cc (sym (ap is_some (none (suc j) l.within)) ∙ sym (mark_front j) ∙ l.spelled))
+  mark_none none (suc j) l = absurd (cc (sym (ap is_some (none (suc j) l.within)) ∙ sym (mark_front j) ∙ passes (a ∷ take j rest) l.spelled))
 
 -- as many pairs as the shorter list has elements
 pub zip_within : (xs ys : List ℕ) → length (zip xs ys) ≤ length ys

@@ -9,6 +9,7 @@ use Rattle.c_lexer.specs.Spellings.{IsToken, IsLongest}
 use Rattle.c_lexer.specs.Tokens.{begins_comment, EndsLine, IsOneLine, has_close, IsLineComment, IsBlockComment, IsSkipped, IsPiece, blank, line_comment, block_comment, skipped_line, token, Reaches, here, piece, HasTokens}
 use Rattle.c_lexer.proofs.Fronts.{plain_front}
 use Rattle.c_lexer.proofs.OneToken.{one_token, one_longest}
+use Rattle.c_lexer.proofs.Spelled.{passes}
 
 -- ---- where comments end
 
@@ -86,7 +87,7 @@ token_class (a ∷ rest) zero h l = let some = l.some in absurd (omega (arith, s
 token_class (a ∷ rest) (suc n) h l = at rest h
   where
     front : (is_blank a ≡ false) × ((a == 35) ≡ false)
-    front = plain_front a (take n rest) l.spelled
+    front = plain_front a (take n rest) (passes (a ∷ take n rest) l.spelled)
 
     at : (more : List ℕ) → begins_comment (a ∷ more) ≡ false → class_of (a ∷ more) ≡ 4
     at [] g = ap (λ t. by_tests t (a == 35) false false) front.0 ∙ ap (λ t. by_tests false t false false) front.1

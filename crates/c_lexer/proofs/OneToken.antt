@@ -9,11 +9,14 @@ use Rattle.c_lexer.specs.declared.token.Punct.{Punct}
 use Rattle.c_lexer.specs.declared.token.TokenKind.{TokenKind}
 use Rattle.c_lexer.specs.declared.token.TokenKind.TheVariants as kind
 use Rattle.c_lexer.specs.Characters.{is_nondigit, is_octal, is_hexadecimal}
-use Rattle.c_lexer.specs.Marks.{mark_of}
+use Rattle.c_lexer.specs.Readings.{mark_of}
 use Rattle.c_lexer.specs.Numbers.{begins_number, is_number_run}
-use Rattle.c_lexer.specs.Literals.{EndsBefore, IsOctal, IsHexadecimal, StandsFor, nothing, plain, simple, octal, hexadecimal, escapes, escape_value, is_literal, middle, single_quote, double_quote}
+use Rattle.c_lexer.specs.Literals.{EndsBefore, IsOctal, IsHexadecimal, StandsFor, nothing, plain, simple, octal, hexadecimal, escapes, escape_value, IsLiteral, single_quote, double_quote}
 use Rattle.c_lexer.specs.Spellings.{is_word, IsToken, word, integer, character, string, punctuator, IsLongest}
 use Rattle.c_lexer.proofs.Fronts.{both, find_passes, mark_row, is_plain_front, is_plain_mark, marks_are_plain}
+use Rattle.c_lexer.proofs.Tests.{is_literal, literal_passes, literal_middle}
+use Rattle.c_lexer.proofs.Constants.{constant_read}
+use Rattle.c_lexer.proofs.MarkTexts.{mark_read}
 
 -- ---- escapes
 
@@ -184,54 +187,58 @@ punctuator_class text mark h =
 abbrev pub token_class : (text : List ℕ) (k : TokenKind) → IsToken text k → ℕ
 token_class _ _ (word t h) = 0
 token_class _ _ (integer t v y h e) = 1
-token_class _ _ (character t v h s) = 2
-token_class _ _ (string t bs h s) = 3
+token_class _ _ (character t i v h s) = 2
+token_class _ _ (string t i bs h s) = 3
 token_class _ _ (punctuator t m h) = 4
 
 pub token_is_of_class : (text : List ℕ) (k : TokenKind) (p : IsToken text k) → class_of text ≡ token_class text k p
 token_is_of_class _ _ (word t h) = word_class t h
 token_is_of_class _ _ (integer t v y h e) = number_class t h
-token_is_of_class _ _ (character t v h s) = character_class t h
-token_is_of_class _ _ (string t bs h s) = string_class t h
-token_is_of_class _ _ (punctuator t m h) = punctuator_class t m h
+token_is_of_class _ _ (character t i v h s) = character_class t (literal_passes single_quote i t h)
+token_is_of_class _ _ (string t i bs h s) = string_class t (literal_passes double_quote i t h)
+token_is_of_class _ _ (punctuator t m h) = punctuator_class t m (ap mark_of h ∙ mark_read m)
 
 same_some : {X : Type 0} (x y : X) → Some x ≡ Some y → x ≡ y
 same_some x y e = cc e
+
+-- a literal has one inside
+one_inside : (quote : ℕ) (text i j : List ℕ) → IsLiteral quote i text → IsLiteral quote j text → i ≡ j
+one_inside quote text i j l k = sym (literal_middle quote i text l) ∙ literal_middle quote j text k
 
 -- a spelling stands for one token at most
 pub one_token : (text : List ℕ) (k l : TokenKind) → IsToken text k → IsToken text l → k ≡ l
 one_token text k l p q = same text k l p q (sym (token_is_of_class text k p) ∙ token_is_of_class text l q)
   where
     same : (t : List ℕ) (m n : TokenKind) (u : IsToken t m) (v : IsToken t n) → token_class t m u ≡ token_class t n v → m ≡ n
-    same _ _ _ (word t h) (word _ g) e = refl
-    same _ _ _ (word t h) (integer _ v y f g) e = absurd (omega (arith, e))
-    same _ _ _ (word t h) (character _ v f s) e = absurd (omega (arith, e))
-    same _ _ _ (word t h) (string _ bs f s) e = absurd (omega (arith, e))
-    same _ _ _ (word t h) (punctuator _ m f) e = absurd (omega (arith, e))
-    same _ _ _ (integer t v y f g) (word _ h) e = absurd (omega (arith, e))
-    same _ _ _ (integer t v y f g) (integer _ w z h i) e = let pair : ◌≡◌ {A = ℕ × IntType} (v, y) (w, z) = same_some (v, y) (w, z) (sym g ∙ i) in ap (λ x. kind.Int x.0 x.1) pair
-    same _ _ _ (integer t v y f g) (character _ w h s) e = absurd (omega (arith, e))
-    same _ _ _ (integer t v y f g) (string _ bs h s) e = absurd (omega (arith, e))
-    same _ _ _ (integer t v y f g) (punctuator _ m h) e = absurd (omega (arith, e))
-    same _ _ _ (character t v f s) (word _ h) e = absurd (omega (arith, e))
-    same _ _ _ (character t v f s) (integer _ w y h i) e = absurd (omega (arith, e))
-    same _ _ _ (character t v f s) (character _ w g r) e = let value : v ≡ w = cc (one_meaning (middle t) (v ∷ []) (w ∷ []) s r) in ap kind.Char value
-    same _ _ _ (character t v f s) (string _ bs h r) e = absurd (omega (arith, e))
-    same _ _ _ (character t v f s) (punctuator _ m h) e = absurd (omega (arith, e))
-    same _ _ _ (string t bs f s) (word _ h) e = absurd (omega (arith, e))
-    same _ _ _ (string t bs f s) (integer _ w y h i) e = absurd (omega (arith, e))
-    same _ _ _ (string t bs f s) (character _ w h r) e = absurd (omega (arith, e))
-    same _ _ _ (string t bs f s) (string _ cs g r) e = ap kind.Str (one_meaning (middle t) bs cs s r)
-    same _ _ _ (string t bs f s) (punctuator _ m h) e = absurd (omega (arith, e))
-    same _ _ _ (punctuator t m f) (word _ h) e = absurd (omega (arith, e))
-    same _ _ _ (punctuator t m f) (integer _ w y h i) e = absurd (omega (arith, e))
-    same _ _ _ (punctuator t m f) (character _ w h r) e = absurd (omega (arith, e))
-    same _ _ _ (punctuator t m f) (string _ bs h r) e = absurd (omega (arith, e))
-    same _ _ _ (punctuator t m f) (punctuator _ n g) e = let mark : m ≡ n = cc (f, g) in ap kind.Punct mark
+    same _ _ _ (word t h1) (word _ h2) e = refl
+    same _ _ _ (word t h1) (integer _ v2 y2 h2 e2) e = absurd (omega (arith, e))
+    same _ _ _ (word t h1) (character _ i2 v2 h2 s2) e = absurd (omega (arith, e))
+    same _ _ _ (word t h1) (string _ i2 bs2 h2 s2) e = absurd (omega (arith, e))
+    same _ _ _ (word t h1) (punctuator _ m2 h2) e = absurd (omega (arith, e))
+    same _ _ _ (integer t v1 y1 h1 e1) (word _ h2) e = absurd (omega (arith, e))
+    same _ _ _ (integer t v1 y1 h1 e1) (integer _ v2 y2 h2 e2) e = let pair : ◌≡◌ {A = ℕ × IntType} (v1, y1) (v2, y2) = same_some (v1, y1) (v2, y2) (sym (constant_read t v1 y1 e1) ∙ constant_read t v2 y2 e2) in ap (λ x. kind.Int x.0 x.1) pair
+    same _ _ _ (integer t v1 y1 h1 e1) (character _ i2 v2 h2 s2) e = absurd (omega (arith, e))
+    same _ _ _ (integer t v1 y1 h1 e1) (string _ i2 bs2 h2 s2) e = absurd (omega (arith, e))
+    same _ _ _ (integer t v1 y1 h1 e1) (punctuator _ m2 h2) e = absurd (omega (arith, e))
+    same _ _ _ (character t i1 v1 h1 s1) (word _ h2) e = absurd (omega (arith, e))
+    same _ _ _ (character t i1 v1 h1 s1) (integer _ v2 y2 h2 e2) e = absurd (omega (arith, e))
+    same _ _ _ (character t i1 v1 h1 s1) (character _ i2 v2 h2 s2) e = let value : v1 ≡ v2 = cc (one_meaning i1 (v1 ∷ []) (v2 ∷ []) s1 (subst (λ i. StandsFor i (v2 ∷ [])) (one_inside single_quote t i2 i1 h2 h1) s2)) in ap kind.Char value
+    same _ _ _ (character t i1 v1 h1 s1) (string _ i2 bs2 h2 s2) e = absurd (omega (arith, e))
+    same _ _ _ (character t i1 v1 h1 s1) (punctuator _ m2 h2) e = absurd (omega (arith, e))
+    same _ _ _ (string t i1 bs1 h1 s1) (word _ h2) e = absurd (omega (arith, e))
+    same _ _ _ (string t i1 bs1 h1 s1) (integer _ v2 y2 h2 e2) e = absurd (omega (arith, e))
+    same _ _ _ (string t i1 bs1 h1 s1) (character _ i2 v2 h2 s2) e = absurd (omega (arith, e))
+    same _ _ _ (string t i1 bs1 h1 s1) (string _ i2 bs2 h2 s2) e = ap kind.Str (one_meaning i1 bs1 bs2 s1 (subst (λ i. StandsFor i bs2) (one_inside double_quote t i2 i1 h2 h1) s2))
+    same _ _ _ (string t i1 bs1 h1 s1) (punctuator _ m2 h2) e = absurd (omega (arith, e))
+    same _ _ _ (punctuator t m1 h1) (word _ h2) e = absurd (omega (arith, e))
+    same _ _ _ (punctuator t m1 h1) (integer _ v2 y2 h2 e2) e = absurd (omega (arith, e))
+    same _ _ _ (punctuator t m1 h1) (character _ i2 v2 h2 s2) e = absurd (omega (arith, e))
+    same _ _ _ (punctuator t m1 h1) (string _ i2 bs2 h2 s2) e = absurd (omega (arith, e))
+    same _ _ _ (punctuator t m1 h1) (punctuator _ m2 h2) e = let mark : m1 ≡ m2 = cc (sym (mark_read m1) ∙ ap mark_of (sym h1 ∙ h2) ∙ mark_read m2) in ap kind.Punct mark
 
 -- and a text has one longest spelling
 pub one_longest : (text : List ℕ) (m n : ℕ) → IsLongest text m → IsLongest text n → m ≡ n
 one_longest text m n u v = ⊎_elim (λ lt. absurd (apart m n u v lt)) (λ ge. ⊎_elim (λ lt. absurd (apart n m v u lt)) (λ le. omega (arith, ge, le)) (cases_lt n m)) (cases_lt m n)
   where
     apart : (a b : ℕ) → IsLongest text a → IsLongest text b → a < b → ⊥
-    apart a b x y lt = absurd (cc (sym (x.longest b lt y.within) ∙ y.spelled))
+    apart a b x y lt = x.longest b lt y.within y.spelled

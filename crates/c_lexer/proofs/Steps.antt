@@ -4,11 +4,13 @@ use Rattle.std.proofs.lemmas.Bool.{cases_lt}
 use Rattle.std.proofs.lemmas.Bool.Decides.{nat_tests}
 use Rattle.std.proofs.lemmas.List.{append-nil}
 use Rattle.c_lexer.specs.declared.token.Token.{Token}
-use Rattle.c_lexer.specs.Spellings.{is_spelling, IsLongest}
+use Rattle.c_lexer.specs.Spellings.{IsLongest}
 use Rattle.c_lexer.specs.Tokens.{IsPiece, Reaches, here, piece, IsLexical}
 use Rattle.c_lexer.specs.Readings.{HasNoPiece}
 use Rattle.c_lexer.proofs.Fronts.{both}
 use Rattle.c_lexer.proofs.OneList.{on_one_way}
+use Rattle.c_lexer.proofs.Spelled.{longest_by_test}
+use Rattle.c_lexer.proofs.Tests.{is_spelling}
 
 -- one piece more
 pub Reaches-more : (bytes : List ℕ) (start at n : ℕ) (tokens new : List Token) → Reaches bytes start at tokens → IsPiece bytes at n new → Reaches bytes start (at + n) (tokens ++ new)
@@ -61,9 +63,4 @@ longest text n e =
     let a = both (nat_lt 0 n) _ e in
     let b = both (nat_le n (length text)) _ a.1 in
     let c = both (is_spelling (take n text)) _ b.1 in
-    record {
-      some = grind (arith, nat_tests);
-      within = grind (arith, nat_tests);
-      spelled = c.0;
-      longest = λ m lt le. none_longer_at text n (length text - n) m c.1 lt (omega (arith, le));
-    }
+    longest_by_test text n (grind (arith, nat_tests)) (grind (arith, nat_tests)) (c.0) (λ m lt le. none_longer_at text n (length text - n) m c.1 lt (omega (arith, le)))

@@ -1,23 +1,26 @@
 -- The token that a text begins with, by its class.
-use Rattle.std.proofs.Common.{◌≡◌, ℕ, zero, suc, ◌+◌, ◌-◌, ◌<◌, ◌≤◌, Bool, true, false, List, [], ◌∷◌, ◌==◌, Option, Some, None, refl, sym, ap, ◌∙◌, subst, arith, length, take, slice_index, is_some, nat_le, ⊎_elim}
+use Rattle.std.proofs.Common.{◌≡◌, ℕ, zero, suc, ◌+◌, ◌<◌, ◌≤◌, Bool, true, false, List, [], ◌∷◌, ◌==◌, Option, Some, None, refl, sym, ap, ◌∙◌, subst, arith, length, take, slice_index, is_some, nat_le, ⊎_elim}
 use Rattle.std.specs.List.{list_all, prefix_len, zip}
 use Rattle.std.specs.Str.{IsUtf8}
 use Rattle.std.proofs.lemmas.Str.{IsUtf8-from_ascii}
 use Rattle.std.proofs.lemmas.Bool.{cases_lt}
 use Rattle.std.proofs.lemmas.Bool.Decides.{nat_tests}
-use Rattle.std.proofs.lemmas.List.{length-take-le, take-take}
+use Rattle.std.proofs.lemmas.List.{length-take-le}
 use Rattle.c_lexer.specs.declared.token.IntType.{IntType}
 use Rattle.c_lexer.specs.declared.token.Punct.{Punct}
 use Rattle.c_lexer.specs.declared.token.TokenKind.{TokenKind}
 use Rattle.c_lexer.specs.declared.token.TokenKind.TheVariants as kind
 use Rattle.c_lexer.specs.Characters.{is_nondigit, is_word_byte}
-use Rattle.c_lexer.specs.Marks.{mark_of}
-use Rattle.c_lexer.specs.Numbers.{begins_number, continues_number, is_number_run, constant_of}
-use Rattle.c_lexer.specs.Literals.{is_inside, middle, single_quote, double_quote, StandsFor}
+use Rattle.c_lexer.specs.Numbers.{begins_number, continues_number, is_number_run}
+use Rattle.c_lexer.specs.Literals.{is_inside, single_quote, double_quote, StandsFor}
 use Rattle.c_lexer.specs.Spellings.{IsToken, word, integer, character, string, punctuator, IsLongest}
-use Rattle.c_lexer.specs.Readings.{IsTokenAt, HasNoToken}
+use Rattle.c_lexer.specs.Readings.{IsTokenAt, HasNoToken, constant_of, mark_of}
 use Rattle.c_lexer.proofs.Fronts.{both, mark_row}
 use Rattle.c_lexer.proofs.OneToken as one
+use Rattle.c_lexer.proofs.Constants.{constant_read, constant_found}
+use Rattle.c_lexer.proofs.MarkTexts.{mark_has_text}
+use Rattle.c_lexer.proofs.Spelled.{passes}
+use Rattle.c_lexer.proofs.Tests.{middle, middle_front, literal_at, literal_middle}
 use Rattle.c_lexer.proofs.Longest.{spelled_as_word, spelled_as_character, spelled_as_string, word_longest, word_front, number_longest, number_run, literal_longest, literal_none, mark_longest, mark_none}
 
 -- a number run that is no constant
@@ -26,9 +29,9 @@ no_constant text c none k p = other text k p none (sym c ∙ one.token_is_of_cla
   where
     other : (t : List ℕ) (l : TokenKind) (q : IsToken t l) → constant_of t ≡ None → 1 ≡ one.token_class t l q → ⊥
     other _ _ (word t h) n i = omega (arith, i)
-    other _ _ (integer t v y h e) n i = absurd (cc (sym n ∙ e))
-    other _ _ (character t v h s) n i = omega (arith, i)
-    other _ _ (string t bs h s) n i = omega (arith, i)
+    other _ _ (integer t v y h e) n i = absurd (cc (sym n ∙ constant_read t v y e))
+    other _ _ (character t j v h s) n i = omega (arith, i)
+    other _ _ (string t j bs h s) n i = omega (arith, i)
     other _ _ (punctuator t m h) n i = omega (arith, i)
 
 -- ---- words
@@ -38,7 +41,7 @@ word_at a rest h =
     let l = word_longest a rest h in
     let front = take (suc (prefix_len is_word_byte rest)) (a ∷ rest) in
     let class : one.class_of front ≡ 0 = ap (λ t. one.by_tests t (a == single_quote) (a == double_quote) (begins_number front)) h in
-    record { longest = l; token = word front (sym (spelled_as_word front class) ∙ l.spelled) }
+    record { longest = l; token = word front (sym (spelled_as_word front class) ∙ passes front l.spelled) }
 
 -- ---- numbers
 
@@ -53,18 +56,12 @@ module _ (a : ℕ) (rest : List ℕ) (h : begins_number (a ∷ rest) ≡ true) w
   is_run = number_run a rest h
 
   pub number_at : (value : ℕ) (type : IntType) → constant_of front ≡ Some (value, type) → IsTokenAt (a ∷ rest) size (kind.Int value type)
-  number_at value type e = record { longest = number_longest a rest h; token = integer front value type is_run e }
+  number_at value type e = record { longest = number_longest a rest h; token = integer front value type is_run (constant_found front value type e) }
 
   pub no_number_at : constant_of front ≡ None → HasNoToken (a ∷ rest)
   no_number_at e n k l t = no_constant front (one.number_class front is_run) e k (subst (λ j. IsToken (take j (a ∷ rest)) k) (one.one_longest (a ∷ rest) n size l (number_longest a rest h)) t)
 
 -- ---- literals
-
-middle_front : (quote : ℕ) (rest : List ℕ) (n : ℕ) → n < length rest → middle (quote ∷ take (suc n) rest) ≡ take n rest
-middle_front quote rest n lt =
-    let length_is : length (take (suc n) rest) ≡ suc n = length-take-le (suc n) rest (omega (arith, lt)) in
-    let less : suc (length (take (suc n) rest)) - 2 ≡ n = omega (arith, length_is) in
-    ap (λ j. take j (take (suc n) rest)) less ∙ take-take n (suc n) rest (omega arith)
 
 -- the token of a character constant or a string: what stands inside, with the two quotes
 module _ (rest : List ℕ) (n : ℕ) (lt : n < length rest) where
@@ -72,13 +69,13 @@ module _ (rest : List ℕ) (n : ℕ) (lt : n < length rest) where
   character_at value closes inside stands =
       let l = literal_longest single_quote 2 refl (λ xs. refl) spelled_as_character rest n lt closes inside in
       let front = single_quote ∷ take (suc n) rest in
-      record { longest = l; token = character front value (sym (spelled_as_character front refl) ∙ l.spelled) (subst (λ t. StandsFor t (value ∷ [])) (sym (middle_front single_quote rest n lt)) stands) }
+      record { longest = l; token = character front (take n rest) value (literal_at single_quote rest n lt closes inside) stands }
 
   pub string_at : (bytes : List ℕ) → slice_index rest n ≡ double_quote → is_inside double_quote (take n rest) ≡ true → StandsFor (take n rest) bytes → IsTokenAt (double_quote ∷ rest) (suc (suc n)) (kind.Str bytes)
   string_at bytes closes inside stands =
       let l = literal_longest double_quote 3 refl (λ xs. refl) spelled_as_string rest n lt closes inside in
       let front = double_quote ∷ take (suc n) rest in
-      record { longest = l; token = string front bytes (sym (spelled_as_string front refl) ∙ l.spelled) (subst (λ t. StandsFor t bytes) (sym (middle_front double_quote rest n lt)) stands) }
+      record { longest = l; token = string front (take n rest) bytes (literal_at double_quote rest n lt closes inside) stands }
 
   pub no_character_at : slice_index rest n ≡ single_quote → is_inside single_quote (take n rest) ≡ true → ((value : ℕ) → StandsFor (take n rest) (value ∷ []) → ⊥) → HasNoToken (single_quote ∷ rest)
   no_character_at closes inside none m k l t =
@@ -89,8 +86,8 @@ module _ (rest : List ℕ) (n : ℕ) (lt : n < length rest) where
       other : (text : List ℕ) (j : TokenKind) (q : IsToken text j) → 2 ≡ one.token_class text j q → middle text ≡ take n rest → ⊥
       other _ _ (word text h) i e = omega (arith, i)
       other _ _ (integer text v y h f) i e = omega (arith, i)
-      other _ _ (character text v h s) i e = none v (subst (λ x. StandsFor x (v ∷ [])) e s)
-      other _ _ (string text bs h s) i e = omega (arith, i)
+      other _ _ (character text j v h s) i e = none v (subst (λ x. StandsFor x (v ∷ [])) (sym (literal_middle single_quote j text h) ∙ e) s)
+      other _ _ (string text j bs h s) i e = omega (arith, i)
       other _ _ (punctuator text mark h) i e = omega (arith, i)
 
   pub no_string_at : slice_index rest n ≡ double_quote → is_inside double_quote (take n rest) ≡ true → ((bytes : List ℕ) → StandsFor (take n rest) bytes → ⊥) → HasNoToken (double_quote ∷ rest)
@@ -102,8 +99,8 @@ module _ (rest : List ℕ) (n : ℕ) (lt : n < length rest) where
       other : (text : List ℕ) (j : TokenKind) (q : IsToken text j) → 3 ≡ one.token_class text j q → middle text ≡ take n rest → ⊥
       other _ _ (word text h) i e = omega (arith, i)
       other _ _ (integer text v y h f) i e = omega (arith, i)
-      other _ _ (character text v h s) i e = omega (arith, i)
-      other _ _ (string text bs h s) i e = none bs (subst (λ x. StandsFor x bs) e s)
+      other _ _ (character text j v h s) i e = omega (arith, i)
+      other _ _ (string text j bs h s) i e = none bs (subst (λ x. StandsFor x bs) (sym (literal_middle double_quote j text h) ∙ e) s)
       other _ _ (punctuator text mark h) i e = omega (arith, i)
 
 -- a literal that is not closed
@@ -192,7 +189,7 @@ pub mark_found : (text rest : List ℕ) (a n : ℕ) (mark : Punct) → text ≡ 
 mark_found text rest a n mark split no_letter single double no_number some within is longer =
     let longest = mark_longest a rest no_letter single double (subst (λ u. begins_number u ≡ false) split no_number) n mark some (subst (λ u. n ≤ length u) split within) (subst (λ u. mark_of (take n u) ≡ Some mark) split is)
     (λ k lt le. subst (λ u. mark_of (take k u) ≡ None) split (longer k lt (subst (λ u. k ≤ length u) (sym split) le))) in
-    record { longest = subst (λ u. IsLongest u n) (sym split) longest; token = punctuator (take n text) mark is }
+    record { longest = subst (λ u. IsLongest u n) (sym split) longest; token = punctuator (take n text) mark (mark_has_text (take n text) mark is) }
 
 pub mark_missing : (text rest : List ℕ) (a : ℕ) → text ≡ a ∷ rest → is_nondigit a ≡ false → (a == single_quote) ≡ false → (a == double_quote) ≡ false → begins_number text ≡ false
     → ((k : ℕ) → k ≤ length text → mark_of (take k text) ≡ None) → HasNoToken text

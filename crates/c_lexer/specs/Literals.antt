@@ -1,6 +1,6 @@
 -- Character constants and string literals. C99 6.4.4.4, 6.4.5: one byte in a character constant, which is a number from 0
 -- to 255; no wide literals, and no line that goes on behind a backslash.
-use Rattle.std.specs.Prelude.{◌≡◌, ℕ, ◌-◌, ◌≤◌, ◌⊎◌, Bool, true, false, List, [], ◌∷◌, ◌++◌, length, take, drop, get_or, ◌==◌, ◌||◌, ◌&&◌, not, nat_le, Option, Some, find, option_map}
+use Rattle.std.specs.Prelude.{◌≡◌, ℕ, ◌≤◌, ◌⊎◌, Bool, true, false, List, [], ◌∷◌, ◌++◌, length, ◌==◌, ◌||◌, ◌&&◌, not, Option, Some, find, option_map}
 use Rattle.std.specs.List.{AllByRecursion}
 use Rattle.std.specs.Str.Parse.{digits_value}
 use Rattle.c_lexer.specs.Characters.{newline, is_octal, is_hexadecimal}
@@ -58,11 +58,7 @@ single_quote = 39
 abbrev pub double_quote : ℕ
 double_quote = 34
 
--- the text without its first byte and its last
-abbrev pub middle : List ℕ → List ℕ
-middle text = take (length text - 2) (drop 1 text)
-
 -- a quote, what may stand inside, and the quote again
-abbrev pub is_literal : ℕ → List ℕ → Bool
-is_literal quote text =
-    nat_le 2 (length text) && (get_or text 0 0 == quote && (get_or text (length text - 1) 0 == quote && is_inside quote (middle text)))
+pub record IsLiteral (quote : ℕ) (inside text : List ℕ) : Type 0 where
+  pub split : text ≡ quote ∷ (inside ++ quote ∷ [])
+  pub allowed : is_inside quote inside ≡ true

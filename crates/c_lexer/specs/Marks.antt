@@ -1,24 +1,52 @@
 -- The punctuators with their texts. C99 6.4.6, without `...`, `#`, `##` and the digraphs.
-use Rattle.std.specs.Prelude.{ℕ, List, [], ◌∷◌, Option, codes, find, option_map}
-use Rattle.std.specs.Str.{bytes_eq}
+use Rattle.std.specs.Prelude.{ℕ, List, codes}
 use Rattle.c_lexer.specs.declared.token.Punct.{Punct}
 use Rattle.c_lexer.specs.declared.token.Punct.TheVariants.{LeftBracket, RightBracket, LeftParenthesis, RightParenthesis, LeftBrace, RightBrace, Dot, Arrow, PlusPlus, MinusMinus, Ampersand, Star, Plus, Minus, Tilde, Exclamation, Slash, Percent, ShiftLeft, ShiftRight, Less, Greater, LessEqual, GreaterEqual, EqualEqual, NotEqual, Caret, Bar, AmpersandAmpersand, BarBar, Question, Colon, Semicolon, Equal, StarEqual, SlashEqual, PercentEqual, PlusEqual, MinusEqual, ShiftLeftEqual, ShiftRightEqual, AmpersandEqual, CaretEqual, BarEqual, Comma}
 
-abbrev pub marks : List (List ℕ × Punct)
-marks =
-    (codes "[", LeftBracket) ∷ (codes "]", RightBracket) ∷ (codes "(", LeftParenthesis) ∷ (codes ")", RightParenthesis) ∷
-    (codes "{", LeftBrace) ∷ (codes "}", RightBrace) ∷ (codes ".", Dot) ∷ (codes "->", Arrow) ∷
-    (codes "++", PlusPlus) ∷ (codes "--", MinusMinus) ∷ (codes "&", Ampersand) ∷ (codes "*", Star) ∷
-    (codes "+", Plus) ∷ (codes "-", Minus) ∷ (codes "~", Tilde) ∷ (codes "!", Exclamation) ∷
-    (codes "/", Slash) ∷ (codes "%", Percent) ∷ (codes "<<", ShiftLeft) ∷ (codes ">>", ShiftRight) ∷
-    (codes "<", Less) ∷ (codes ">", Greater) ∷ (codes "<=", LessEqual) ∷ (codes ">=", GreaterEqual) ∷
-    (codes "==", EqualEqual) ∷ (codes "!=", NotEqual) ∷ (codes "^", Caret) ∷ (codes "|", Bar) ∷
-    (codes "&&", AmpersandAmpersand) ∷ (codes "||", BarBar) ∷ (codes "?", Question) ∷ (codes ":", Colon) ∷
-    (codes ";", Semicolon) ∷ (codes "=", Equal) ∷ (codes "*=", StarEqual) ∷ (codes "/=", SlashEqual) ∷
-    (codes "%=", PercentEqual) ∷ (codes "+=", PlusEqual) ∷ (codes "-=", MinusEqual) ∷ (codes "<<=", ShiftLeftEqual) ∷
-    (codes ">>=", ShiftRightEqual) ∷ (codes "&=", AmpersandEqual) ∷ (codes "^=", CaretEqual) ∷ (codes "|=", BarEqual) ∷
-    (codes ",", Comma) ∷ []
-
--- the punctuator of a text
-abbrev pub mark_of : List ℕ → Option Punct
-mark_of text = option_map (λ m. m.1) (find (λ m. bytes_eq m.0 text) marks)
+-- a punctuator as it is written
+abbrev pub mark_text : Punct → List ℕ
+mark_text LeftBracket = codes "["
+mark_text RightBracket = codes "]"
+mark_text LeftParenthesis = codes "("
+mark_text RightParenthesis = codes ")"
+mark_text LeftBrace = codes "{"
+mark_text RightBrace = codes "}"
+mark_text Dot = codes "."
+mark_text Arrow = codes "->"
+mark_text PlusPlus = codes "++"
+mark_text MinusMinus = codes "--"
+mark_text Ampersand = codes "&"
+mark_text Star = codes "*"
+mark_text Plus = codes "+"
+mark_text Minus = codes "-"
+mark_text Tilde = codes "~"
+mark_text Exclamation = codes "!"
+mark_text Slash = codes "/"
+mark_text Percent = codes "%"
+mark_text ShiftLeft = codes "<<"
+mark_text ShiftRight = codes ">>"
+mark_text Less = codes "<"
+mark_text Greater = codes ">"
+mark_text LessEqual = codes "<="
+mark_text GreaterEqual = codes ">="
+mark_text EqualEqual = codes "=="
+mark_text NotEqual = codes "!="
+mark_text Caret = codes "^"
+mark_text Bar = codes "|"
+mark_text AmpersandAmpersand = codes "&&"
+mark_text BarBar = codes "||"
+mark_text Question = codes "?"
+mark_text Colon = codes ":"
+mark_text Semicolon = codes ";"
+mark_text Equal = codes "="
+mark_text StarEqual = codes "*="
+mark_text SlashEqual = codes "/="
+mark_text PercentEqual = codes "%="
+mark_text PlusEqual = codes "+="
+mark_text MinusEqual = codes "-="
+mark_text ShiftLeftEqual = codes "<<="
+mark_text ShiftRightEqual = codes ">>="
+mark_text AmpersandEqual = codes "&="
+mark_text CaretEqual = codes "^="
+mark_text BarEqual = codes "|="
+mark_text Comma = codes ","

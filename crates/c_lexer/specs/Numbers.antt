@@ -1,12 +1,12 @@
 -- Number runs and integer constants.
-use Rattle.std.specs.Prelude.{ℕ, Bool, true, false, List, [], ◌∷◌, length, drop, take, reverse, slice_index, ◌-◌, ◌==◌, ◌||◌, ◌&&◌, nat_le, nat_lt, Option, Some, None, option_map, option_and_then, find, codes, if◌then◌else◌}
-use Rattle.std.specs.List.{list_all, prefix_len, zip}
+use Rattle.std.specs.Prelude.{◌≡◌, ℕ, Bool, true, false, List, [], ◌∷◌, ◌++◌, drop, ◌==◌, ◌||◌, ◌&&◌, nat_le, Option, Some, option_map, find, codes}
+use Rattle.std.specs.List.{list_all, zip}
 use Rattle.std.specs.Str.{bytes_eq}
 use Rattle.std.specs.Str.Parse.{digits_value}
 use Rattle.c_lexer.specs.declared.number.Suffix.{Suffix}
 use Rattle.c_lexer.specs.declared.token.IntType.{IntType}
 use Rattle.c_lexer.specs.declared.token.IntType.TheVariants.{Int, UInt, Long, ULong}
-use Rattle.c_lexer.specs.Characters.{is_one_of, is_digit, is_octal, is_hexadecimal, is_word_byte}
+use Rattle.c_lexer.specs.Characters.{is_between, is_one_of, is_digit, is_octal, is_hexadecimal, is_word_byte}
 
 -- a digit, or a dot and a digit
 abbrev pub begins_number : List ℕ → Bool
@@ -24,28 +24,16 @@ is_number_run text = begins_number text && list_all continues_number (zip text (
 
 -- ---- C99 6.4.4.1: integer constants. `int` and `long` have 32 bits, and there is no `long long`
 
--- `0x` or `0X`
-abbrev pub begins_hexadecimal : List ℕ → Bool
-begins_hexadecimal text = slice_index text 0 == 48 && is_one_of (codes "xX") (slice_index text 1)
+-- a digit other than 0
+abbrev pub is_nonzero_digit : ℕ → Bool
+is_nonzero_digit = is_between 49 57
 
--- a base, and at least one digit of it
-abbrev pub in_base : ℕ → (ℕ → Bool) → List ℕ → Option (ℕ × List ℕ)
-in_base base is_class digits = if length digits == 0 then None else (if list_all is_class digits then Some (base, digits) else None)
-
--- hexadecimal ones behind `0x` or `0X`, octal ones that begin with 0, or decimal ones that begin with another digit
-abbrev pub digits_of : List ℕ → Option (ℕ × List ℕ)
-digits_of text =
-    if begins_hexadecimal text then in_base 16 is_hexadecimal (drop 2 text)
-    else (if slice_index text 0 == 48 then in_base 8 is_octal text
-    else in_base 10 is_digit text)
-
--- a byte of a suffix; it is no digit of any base
-abbrev pub is_suffix_byte : ℕ → Bool
-is_suffix_byte = is_one_of (codes "uUlL")
-
--- how many such bytes end a text
-abbrev pub suffix_size : List ℕ → ℕ
-suffix_size text = prefix_len is_suffix_byte (reverse text)
+-- what stands before the digits of a constant, its digits, and their base
+pub data IsNumeral : (front digits : List ℕ) (base : ℕ) → Type 0 where
+  decimal : (first : ℕ) (rest : List ℕ) → is_nonzero_digit first ≡ true → list_all is_digit rest ≡ true → IsNumeral [] (first ∷ rest) 10
+  octal : (rest : List ℕ) → list_all is_octal rest ≡ true → IsNumeral [] (48 ∷ rest) 8
+  hexadecimal : (x first : ℕ) (rest : List ℕ) → is_one_of (codes "xX") x ≡ true → is_hexadecimal first ≡ true → list_all is_hexadecimal rest ≡ true
+      → IsNumeral (48 ∷ x ∷ []) (first ∷ rest) 16
 
 -- the suffixes, and whether they have a `u` and an `l`
 abbrev pub suffixes : List (List ℕ × Suffix)
@@ -61,21 +49,37 @@ suffixes =
 abbrev pub suffix_of : List ℕ → Option Suffix
 suffix_of text = option_map (λ s. s.1) (find (λ s. bytes_eq s.0 text) suffixes)
 
--- the type of a value, by the base and the suffix of its constant; above 4294967295 there is none, and above 2147483647
--- none for a decimal one without `u`
+-- the types that a constant may have, in order: by whether it is decimal, and whether it has a `u` and an `l`
+abbrev pub types_of : Bool → Bool → Bool → List IntType
+types_of true false false = Int ∷ Long ∷ []
+types_of false false false = Int ∷ UInt ∷ Long ∷ ULong ∷ []
+types_of true true false = UInt ∷ ULong ∷ []
+types_of false true false = UInt ∷ ULong ∷ []
+types_of true false true = Long ∷ []
+types_of false false true = Long ∷ ULong ∷ []
+types_of true true true = ULong ∷ []
+types_of false true true = ULong ∷ []
+
+-- the greatest number of a type
+abbrev pub greatest_of : IntType → ℕ
+greatest_of Int = 2147483647
+greatest_of UInt = 4294967295
+greatest_of Long = 2147483647
+greatest_of ULong = 4294967295
+
+-- the type of a value is the first of its list that has the value
 abbrev pub type_of : ℕ → Suffix → ℕ → Option IntType
-type_of base s value =
-    if nat_lt 4294967295 value then None
-    else (if s.has_u then Some (if s.has_l then ULong else UInt)
-    else (if nat_le value 2147483647 then Some (if s.has_l then Long else Int)
-    else (if base == 10 then None else Some (if s.has_l then ULong else UInt))))
+type_of base s value = find (λ t. nat_le value (greatest_of t)) (types_of (base == 10) s.has_u s.has_l)
 
--- the value and the type of these digits with this suffix
-abbrev pub typed : ℕ × List ℕ → Suffix → Option (ℕ × IntType)
-typed d s = option_map (λ t. (digits_value d.0 d.1, t)) (type_of d.0 s (digits_value d.0 d.1))
-
--- an integer constant: its value and its type. It is digits and a suffix
-abbrev pub constant_of : List ℕ → Option (ℕ × IntType)
-constant_of text =
-    let front = length text - suffix_size text in
-    option_and_then (λ s. option_and_then (λ d. typed d s) (digits_of (take front text))) (suffix_of (drop front text))
+-- the text is an integer constant of this value and this type: a front, digits and a suffix
+pub record IsConstant (text : List ℕ) (value : ℕ) (type : IntType) : Type 0 where
+  pub front : List ℕ
+  pub digits : List ℕ
+  pub suffix : List ℕ
+  pub split : text ≡ front ++ (digits ++ suffix)
+  pub base : ℕ
+  pub numeral : IsNumeral front digits base
+  pub ending : Suffix
+  pub suffix_is : suffix_of suffix ≡ Some ending
+  pub value_is : value ≡ digits_value base digits
+  pub type_is : type_of base ending value ≡ Some type

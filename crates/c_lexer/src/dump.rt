@@ -1,7 +1,8 @@
 // The text of a token list.
 ghost use Rattle.std.specs.Prelude.{◌≡◌, ◌++◌, codes, IfOk, OnOk};
 ghost use Rattle.std.specs.List.{flat_map};
-ghost use Rattle.c_lexer.specs.Dump.{mark_text, kind_text, token_text, tokens_text};
+ghost use Rattle.c_lexer.specs.Marks.{mark_text};
+ghost use Rattle.c_lexer.specs.Dump.{kind_text, token_text, tokens_text};
 
 use crate::token::{Punct, Token, TokenKind, Tokens};
 use cp_base::Bytes;

@@ -1,6 +1,6 @@
 // Punctuators.
 ghost use Rattle.std.specs.Prelude.{◌≡◌, ℕ, List, [], ◌∷◌, ◌<◌, ◌≤◌, length, take, None, Some, IfSome, IfNone};
-ghost use Rattle.c_lexer.specs.Marks.{mark_of};
+ghost use Rattle.c_lexer.specs.Readings.{mark_of};
 
 use crate::token::Punct;
 

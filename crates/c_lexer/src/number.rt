@@ -2,7 +2,8 @@
 ghost use Rattle.std.specs.Prelude.{◌≡◌, option_map};
 ghost use Rattle.std.specs.List.{list_all};
 ghost use Rattle.c_lexer.specs.Characters.{is_digit, is_hexadecimal, is_octal};
-ghost use Rattle.c_lexer.specs.Numbers.{constant_of, digits_of, in_base, suffix_of, suffix_size, type_of};
+ghost use Rattle.c_lexer.specs.Numbers.{suffix_of};
+ghost use Rattle.c_lexer.specs.Readings.{constant_of, digits_of, in_base, suffix_size, type_by_value};
 
 use crate::scan::value_of;
 use crate::token::IntType;
@@ -105,7 +106,7 @@ fn are_decimal(text: &[u8]) -> bool
 }
 
 fn type_of(base: u32, suffix: Suffix, value: u32) -> Option<IntType>
-    ensures { result ≡ type_of base suffix value }
+    ensures { result ≡ type_by_value base suffix value }
 {
     let is_unsigned = suffix.has_u || (value > 2_147_483_647 && base != 10);
     if !is_unsigned && value > 2_147_483_647 {

@@ -1,4 +1,5 @@
--- What the parser's calls answer, by a reading. These serve the parser's inner functions alone.
+-- What the parser's calls answer, by a reading. These serve the parser's inner functions alone: a reader of the
+-- contract of `parse` need not read them.
 use Rattle.std.specs.Prelude.{◌≡◌, ⊤, ℕ, ◌<◌, ◌≤◌, suc, Bool, true, false, List, [], ◌∷◌, map, length, Result, Ok, Err}
 use denote.Bor.{Bor}
 use Rattle.c_lexer.specs.declared.token.Token.{Token}

@@ -1,9 +1,10 @@
--- Parts of readings, by the names and the tokens at their place. These serve the parser's inner functions alone.
+-- Parts of readings, by the names and the tokens at their place. These serve the parser's inner functions alone:
+-- a reader of the contract of `parse` need not read them.
 use Rattle.std.specs.Prelude.{◌&&◌, ◌||◌, not, if◌then◌else◌, ⊤, ◌⊎◌, ◌<◌, ℕ, suc, Bool, true, false, List, length, codes}
 use Rattle.c_lexer.specs.declared.token.Token.{Token}
 use Rattle.c_lexer.specs.declared.token.Punct.{Punct}
 use Rattle.c_lexer.specs.declared.token.Punct.TheVariants.{Semicolon, Colon, LeftBracket, RightBracket, LeftParenthesis, RightParenthesis, RightBrace, Dot, Arrow, PlusPlus, MinusMinus}
-use Rattle.c_lexer.specs.Dump.{mark_text}
+use Rattle.c_lexer.specs.Marks.{mark_text}
 use Rattle.c_syntax.specs.declared.kind.SynKind.{SynKind}
 use Rattle.c_syntax.specs.declared.kind.SynKind.TheVariants as kind
 use Rattle.c_syntax.specs.Trees.{Tree, Forest, none, ◌then◌, one, two, three, text_node, plain_node, constant_node}

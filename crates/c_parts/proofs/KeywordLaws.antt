@@ -1,88 +1,87 @@
--- A word is sought among the keywords of its length.
-use Rattle.std.proofs.Common.{◌≡◌, ℕ, zero, suc, ◌==◌, Bool, true, false, ◌&&◌, ◌||◌, not, List, [], ◌∷◌, length, refl, sym, ap, ◌∙◌, true≢false}
-use Rattle.std.specs.Prelude.{codes}
+-- A word is sought at one slot of the table of keywords.
+use Rattle.std.proofs.Common.{◌≡◌, ℕ, zero, suc, Bool, true, false, ◌||◌, ◌&&◌, not, List, [], ◌∷◌, codes, refl, sym, ap, ◌∙◌, subst, map}
+use Rattle.std.proofs.Math.ListN.{get_or}
+use Rattle.std.specs.List.{list_all}
 use Rattle.std.specs.Str.{bytes_eq}
-use Rattle.c_grammar.specs.Vocabulary.{is_among, is_identifier, keywords}
+use Rattle.std.proofs.lemmas.Slice.Eq.{bytes_eq-Decides}
+use Rattle.c_grammar.specs.Vocabulary.{is_among, is_identifier, keywords, is_type_word, is_storage_word}
+use Rattle.c_parts.specs.Slots.{slot_of}
+use Rattle.c_parts.specs.declared.words.TheConstants.{KEYWORDS}
 
-abbrev same : ℕ → ℕ → Bool
-same zero zero = true
-same zero (suc n) = false
-same (suc m) zero = false
-same (suc m) (suc n) = same m n
+both : (a b : Bool) → (a && b) ≡ true → (a ≡ true) × (b ≡ true)
+both true b e = (refl, e)
+both false b e = absurd (cc e)
 
-abbrev choose : Bool → List ℕ → List (List ℕ) → List (List ℕ)
-choose true word words = word ∷ words
-choose false word words = words
+same_tests : (a b : Bool) → (a ≡ true → b ≡ true) → (b ≡ true → a ≡ true) → a ≡ b
+same_tests true b f g = sym (f refl)
+same_tests false true f g = g refl
+same_tests false false f g = refl
 
-abbrev of_length : ℕ → List (List ℕ) → List (List ℕ)
-of_length n [] = []
-of_length n (word ∷ words) = choose (same (length word) n) word (of_length n words)
+-- ---- words among others
 
-both : (a b : Bool) → b ≡ false → (a && b) ≡ false
-both true b e = e
-both false b e = refl
+-- a word among those that pass a test passes it
+among_all : (test : List ℕ → Bool) (words : List (List ℕ)) (text : List ℕ) → list_all test words ≡ true → is_among words text ≡ true → test text ≡ true
+among_all test [] text all e = absurd (cc e)
+among_all test (word ∷ words) text all e = at (bytes_eq word text) refl e (among_all test words text (both (test word) (list_all test words) all).1)
+  where
+    at : (b : Bool) → bytes_eq word text ≡ b → (b || is_among words text) ≡ true → (is_among words text ≡ true → test text ≡ true) → test text ≡ true
+    at true h f later = subst (λ w. test w ≡ true) ((bytes_eq-Decides word text).0 h) (both (test word) (list_all test words) all).0
+    at false h f later = later f
 
-other_length : (word text : List ℕ) → same (length word) (length text) ≡ false → bytes_eq word text ≡ false
-other_length [] [] e = absurd (true≢false e)
-other_length [] (y ∷ ys) e = refl
-other_length (x ∷ xs) [] e = refl
-other_length (x ∷ xs) (y ∷ ys) e = both (x == y) (bytes_eq xs ys) (other_length xs ys e)
+-- a word of a list in which all are keywords is one
+no_other : (words : List (List ℕ)) (text : List ℕ) → list_all (is_among keywords) words ≡ true → is_identifier text ≡ true → is_among words text ≡ false
+no_other words text all e = at (is_among words text) refl
+  where
+    at : (b : Bool) → is_among words text ≡ b → b ≡ false
+    at false h = refl
+    at true h = absurd (cc (sym (ap not (among_all (is_among keywords) words text all h)) ∙ e))
 
-among_chosen : (here : Bool) (word : List ℕ) (words some : List (List ℕ)) (text : List ℕ) → here ≡ same (length word) (length text) → is_among words text ≡ is_among some text
-    → is_among (word ∷ words) text ≡ is_among (choose here word some) text
-among_chosen true word words some text e more = ap (λ (b : Bool). bytes_eq word text || b) more
-among_chosen false word words some text e more = ap (λ (b : Bool). b || is_among words text) (other_length word text (sym e)) ∙ more
+pub no_type_word : (text : List ℕ) → is_identifier text ≡ true → is_type_word text ≡ false
+no_type_word text = no_other (codes "void" ∷ codes "char" ∷ codes "short" ∷ codes "int" ∷ codes "long" ∷ codes "signed" ∷ codes "unsigned" ∷ codes "_Bool" ∷ []) text refl
 
-among_length : (words : List (List ℕ)) (text : List ℕ) → is_among words text ≡ is_among (of_length (length text) words) text
-among_length [] text = refl
-among_length (word ∷ words) text = among_chosen (same (length word) (length text)) word words (of_length (length text) words) text refl (among_length words text)
+pub no_storage_word : (text : List ℕ) → is_identifier text ≡ true → is_storage_word text ≡ false
+no_storage_word text = no_other (codes "typedef" ∷ codes "extern" ∷ codes "static" ∷ codes "auto" ∷ codes "register" ∷ codes "const" ∷ []) text refl
 
-sought : (n : ℕ) (text : List ℕ) (found : Bool) → length text ≡ n → found ≡ is_among (of_length n keywords) text → not found ≡ is_identifier text
-sought n text found e f = ap not (f ∙ ap (λ (n : ℕ). is_among (of_length n keywords) text) (sym e) ∙ sym (among_length keywords text))
+-- ---- the table
 
-module _ (text : List ℕ) (found : Bool) where
-  pub sought_3 : length text ≡ 3 → found ≡ is_among (codes "for" ∷ codes "int" ∷ []) text → not found ≡ is_identifier text
-  sought_3 e f = sought 3 text found e f
+element_passes : (test : List ℕ → Bool) (words : List (List ℕ)) (i : ℕ) (d : List ℕ) → list_all test words ≡ true → test d ≡ true → test (get_or words i d) ≡ true
+element_passes test [] i d all e = e
+element_passes test (word ∷ words) zero d all e = (both (test word) (list_all test words) all).0
+element_passes test (word ∷ words) (suc i) d all e = element_passes test words i d (both (test word) (list_all test words) all).1 e
 
-  pub sought_4 : length text ≡ 4
-      → found ≡ is_among (codes "auto" ∷ codes "case" ∷ codes "char" ∷ codes "else" ∷ codes "enum" ∷ codes "goto" ∷ codes "long" ∷ codes "void" ∷ []) text → not found ≡ is_identifier text
-  sought_4 e f = sought 4 text found e f
+-- what stands at a slot: a keyword, or an empty text
+abbrev pub keyword_at : ℕ → List ℕ
+keyword_at slot = get_or (map (λ k. k.now) KEYWORDS) slot []
 
-  pub sought_5 : length text ≡ 5
-      → found ≡ is_among (codes "break" ∷ codes "const" ∷ codes "float" ∷ codes "short" ∷ codes "union" ∷ codes "while" ∷ codes "_Bool" ∷ []) text → not found ≡ is_identifier text
-  sought_5 e f = sought 5 text found e f
+is_own_slot : List ℕ → Bool
+is_own_slot word = bytes_eq (keyword_at (slot_of word)) word
 
-  pub sought_6 : length text ≡ 6
-      → found ≡ is_among (codes "double" ∷ codes "extern" ∷ codes "inline" ∷ codes "return" ∷ codes "signed" ∷ codes "sizeof" ∷ codes "static" ∷ codes "struct" ∷ codes "switch" ∷ []) text
-      → not found ≡ is_identifier text
-  sought_6 e f = sought 6 text found e f
+is_keyword_or_empty : List ℕ → Bool
+is_keyword_or_empty word = is_among keywords word || bytes_eq word []
 
-  pub sought_7 : length text ≡ 7 → found ≡ is_among (codes "default" ∷ codes "typedef" ∷ []) text → not found ≡ is_identifier text
-  sought_7 e f = sought 7 text found e f
+keywords_have_slots : list_all is_own_slot keywords ≡ true
+unfolding is_own_slot
+keywords_have_slots = refl
 
-  pub sought_8 : length text ≡ 8
-      → found ≡ is_among (codes "continue" ∷ codes "register" ∷ codes "restrict" ∷ codes "unsigned" ∷ codes "volatile" ∷ codes "_Complex" ∷ []) text → not found ≡ is_identifier text
-  sought_8 e f = sought 8 text found e f
+slots_have_keywords : list_all is_keyword_or_empty (map (λ k. k.now) KEYWORDS) ≡ true
+unfolding is_keyword_or_empty
+slots_have_keywords = refl
 
-  pub sought_10 : length text ≡ 10 → found ≡ is_among (codes "_Imaginary" ∷ []) text → not found ≡ is_identifier text
-  sought_10 e f = sought 10 text found e f
+there : (text : List ℕ) → is_among keywords text ≡ true → bytes_eq (keyword_at (slot_of text)) text ≡ true
+unfolding is_own_slot
+there text e = among_all is_own_slot keywords text keywords_have_slots e
 
--- no keyword has another length
-none_of : (n : ℕ) → (n ≡ 2 → ⊥) → (n ≡ 3 → ⊥) → (n ≡ 4 → ⊥) → (n ≡ 5 → ⊥) → (n ≡ 6 → ⊥) → (n ≡ 7 → ⊥) → (n ≡ 8 → ⊥) → (n ≡ 10 → ⊥) → of_length n keywords ≡ []
-none_of zero a b c d e f g h = refl
-none_of (suc zero) a b c d e f g h = refl
-none_of (suc (suc zero)) a b c d e f g h = absurd (a refl)
-none_of (suc (suc (suc zero))) a b c d e f g h = absurd (b refl)
-none_of (suc (suc (suc (suc zero)))) a b c d e f g h = absurd (c refl)
-none_of (suc (suc (suc (suc (suc zero))))) a b c d e f g h = absurd (d refl)
-none_of (suc (suc (suc (suc (suc (suc zero)))))) a b c d e f g h = absurd (e refl)
-none_of (suc (suc (suc (suc (suc (suc (suc zero))))))) a b c d e f g h = absurd (f refl)
-none_of (suc (suc (suc (suc (suc (suc (suc (suc zero)))))))) a b c d e f g h = absurd (g refl)
-none_of (suc (suc (suc (suc (suc (suc (suc (suc (suc zero))))))))) a b c d e f g h = refl
-none_of (suc (suc (suc (suc (suc (suc (suc (suc (suc (suc zero)))))))))) a b c d e f g h = absurd (h refl)
-none_of (suc (suc (suc (suc (suc (suc (suc (suc (suc (suc (suc n))))))))))) a b c d e f g h = refl
+or_false : (b : Bool) → (b || false) ≡ true → b ≡ true
+or_false true e = e
+or_false false e = e
 
-pub sought_elsewhere : (text : List ℕ) → (length text ≡ 2 → ⊥) → (length text ≡ 3 → ⊥) → (length text ≡ 4 → ⊥) → (length text ≡ 5 → ⊥) → (length text ≡ 6 → ⊥)
-    → (length text ≡ 7 → ⊥) → (length text ≡ 8 → ⊥) → (length text ≡ 10 → ⊥) → true ≡ is_identifier text
-sought_elsewhere text a b c d e f g h =
-    sought (length text) text false refl (sym (ap (λ words. is_among words text) (none_of (length text) a b c d e f g h)))
+only_there : (text : List ℕ) → bytes_eq (keyword_at (slot_of text)) text ≡ true → is_among keywords text ≡ true
+unfolding is_keyword_or_empty
+only_there [] e = absurd (cc e)
+only_there (byte ∷ rest) e =
+    let same = (bytes_eq-Decides (keyword_at (slot_of (byte ∷ rest))) (byte ∷ rest)).0 e in
+    let here = element_passes is_keyword_or_empty (map (λ k. k.now) KEYWORDS) (slot_of (byte ∷ rest)) [] slots_have_keywords refl in
+    or_false (is_among keywords (byte ∷ rest)) (subst (λ word. (is_among keywords word || bytes_eq word []) ≡ true) same here)
+
+pub sought : (text : List ℕ) → bytes_eq (keyword_at (slot_of text)) text ≡ is_among keywords text
+sought text = same_tests (bytes_eq (keyword_at (slot_of text)) text) (is_among keywords text) (only_there text) (there text)

@@ -12,7 +12,8 @@
 // `part` has parts and the nodes above them; `specifier` and `declarator` specs and declarators; `words` what words and
 // operators are for the grammar; `budget` the budgets for heights.
 //
-// Source: attributes that are synthesized while a tree is read (Aho and others, Compilers, 5.1).
+// Source: attributes that are synthesized while a tree is read (Aho and others, Compilers, 5.1); a perfect hash function of
+// the keywords (Schmidt, GPERF: A Perfect Hash Function Generator, 1990).
 #![tactic(auto)]
 
 mod budget;

@@ -1,33 +1,108 @@
 // Words and operators by what the grammar takes them for.
-ghost use Rattle.std.specs.Prelude.{◌≡◌};
+ghost use Rattle.std.specs.Prelude.{◌≡◌, ◌<◌, [], get_or, length, map};
 ghost use Rattle.c_grammar.specs.Vocabulary as vocabulary;
+ghost use Rattle.c_parts.specs.Slots.{slot_of};
 
 use c_lexer::Punct;
 
-// The keywords by their lengths.
-const KEYWORDS_OF_2: [&str; 2] = ["do", "if"];
-
-const KEYWORDS_OF_3: [&str; 2] = ["for", "int"];
-
-const KEYWORDS_OF_4: [&str; 8] = [
-    "auto", "case", "char", "else", "enum", "goto", "long", "void",
+// Each keyword at its slot; the other slots are empty.
+const KEYWORDS: [&str; 95] = [
+    "static",
+    "signed",
+    "return",
+    "sizeof",
+    "if",
+    "switch",
+    "",
+    "inline",
+    "register",
+    "",
+    "restrict",
+    "",
+    "",
+    "typedef",
+    "",
+    "",
+    "short",
+    "struct",
+    "_Bool",
+    "int",
+    "",
+    "unsigned",
+    "",
+    "",
+    "",
+    "",
+    "void",
+    "",
+    "union",
+    "",
+    "",
+    "volatile",
+    "",
+    "_Complex",
+    "long",
+    "",
+    "_Imaginary",
+    "while",
+    "auto",
+    "",
+    "",
+    "",
+    "",
+    "",
+    "break",
+    "",
+    "case",
+    "",
+    "",
+    "",
+    "continue",
+    "",
+    "",
+    "",
+    "",
+    "",
+    "",
+    "double",
+    "",
+    "char",
+    "",
+    "",
+    "const",
+    "do",
+    "else",
+    "",
+    "",
+    "",
+    "",
+    "",
+    "",
+    "",
+    "enum",
+    "default",
+    "",
+    "extern",
+    "",
+    "",
+    "",
+    "",
+    "",
+    "",
+    "",
+    "",
+    "",
+    "for",
+    "",
+    "",
+    "",
+    "float",
+    "",
+    "",
+    "goto",
+    "",
+    "",
 ];
-
-const KEYWORDS_OF_5: [&str; 7] = [
-    "break", "const", "float", "short", "union", "while", "_Bool",
-];
-
-const KEYWORDS_OF_6: [&str; 9] = [
-    "double", "extern", "inline", "return", "signed", "sizeof", "static", "struct", "switch",
-];
-
-const KEYWORDS_OF_7: [&str; 2] = ["default", "typedef"];
-
-const KEYWORDS_OF_8: [&str; 6] = [
-    "continue", "register", "restrict", "unsigned", "volatile", "_Complex",
-];
-
-const KEYWORDS_OF_10: [&str; 1] = ["_Imaginary"];
 
 const TYPE_WORDS: [&str; 8] = [
     "void", "char", "short", "int", "long", "signed", "unsigned", "_Bool",
@@ -39,16 +114,25 @@ const STORAGE_WORDS: [&str; 6] = ["typedef", "extern", "static", "auto", "regist
 pub fn is_identifier(text: &str) -> bool
     ensures { result ≡ vocabulary.is_identifier text.now }
 {
-    match text.len() {
-        2 => !KEYWORDS_OF_2.contains(&text),
-        3 => !KEYWORDS_OF_3.contains(&text),
-        4 => !KEYWORDS_OF_4.contains(&text),
-        5 => !KEYWORDS_OF_5.contains(&text),
-        6 => !KEYWORDS_OF_6.contains(&text),
-        7 => !KEYWORDS_OF_7.contains(&text),
-        8 => !KEYWORDS_OF_8.contains(&text),
-        10 => !KEYWORDS_OF_10.contains(&text),
-        _ => true,
+    word_at(&KEYWORDS, slot_of(text.as_bytes())) != text
+}
+
+// What stands at a slot of a table.
+fn word_at(table: &[&'static str], slot: usize) -> &'static str
+    requires { slot < length table.now }
+    ensures { result.now ≡ get_or (map (λ word. word.now) table.now) slot [] }
+{
+    table[slot]
+}
+
+// The place of a word in the table of keywords, by its length and its first and last byte. No two keywords have the same.
+fn slot_of(text: &[u8]) -> usize
+    ensures slot { result ≡ slot_of text.now }
+    ensures within { result < 95 }
+{
+    match text {
+        [first, .., last] => (text.len() + 9 * usize::from(*first) + usize::from(*last)) % 95,
+        _ => 0,
     }
 }
 
@@ -56,14 +140,14 @@ pub fn is_identifier(text: &str) -> bool
 pub fn is_type_word(text: &str) -> bool
     ensures { result ≡ vocabulary.is_type_word text.now }
 {
-    TYPE_WORDS.contains(&text)
+    !is_identifier(text) && TYPE_WORDS.contains(&text)
 }
 
 /// The word stands among specs and says no type.
 pub fn is_storage_word(text: &str) -> bool
     ensures { result ≡ vocabulary.is_storage_word text.now }
 {
-    STORAGE_WORDS.contains(&text)
+    !is_identifier(text) && STORAGE_WORDS.contains(&text)
 }
 
 /// The mark stands before an operand.

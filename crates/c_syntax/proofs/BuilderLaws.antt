@@ -7,7 +7,7 @@ use Rattle.c_syntax.specs.declared.label.Label.{Label}
 use Rattle.c_syntax.specs.declared.syntax.SynId.{SynId}
 use Rattle.c_syntax.specs.declared.syntax.SynNode.{SynNode}
 use Rattle.c_syntax.specs.Trees.{Tree, Forest, none, tree, one, forest_of}
-use Rattle.c_syntax.specs.Tables.{size, roots, nodes, node_of, firsts, built, stack_of, table_of, IsBegun, IsTable, IsWhole}
+use Rattle.c_syntax.specs.Tables.{size, roots, nodes, node_of, firsts, built, stack_of, table_of, IsBegun}
 use Rattle.c_syntax.proofs.TreeLaws.{joined, forest_of-append, size-joined, roots-joined, nodes-joined, firsts-joined, length-nodes, length-stack}
 
 -- ---- one node more

@@ -2,12 +2,13 @@
 use Rattle.std.proofs.Common.{◌≡◌, ℕ, zero, suc, ◌+◌, ◌<◌, ◌≤◌, List, [], ◌∷◌, ◌++◌, length, Some, refl, sym, ap, ap₂, ◌∙◌, subst, arith, append_assoc, append-nil, length-append}
 use Rattle.std.specs.Prelude.{slice_get}
 use Rattle.std.proofs.Math.ListN.{get_or}
+use Rattle.std.proofs.Math.Nat.{le-max_left, le-max_right}
 use Rattle.std.specs.List.{AllByRecursion}
 use Rattle.c_syntax.specs.declared.label.Label.{Label}
 use Rattle.c_syntax.specs.declared.syntax.SynId.{SynId}
 use Rattle.c_syntax.specs.declared.syntax.SynNode.{SynNode}
-use Rattle.c_syntax.specs.Trees.{Tree, Forest, none, tree, ◌then◌}
-use Rattle.c_syntax.specs.Tables.{size, roots, nodes, node_of, label_of, table_of, StandAll, no_ids, and_id, StandsFor, InOrderFrom, IsInOrder}
+use Rattle.c_syntax.specs.Trees.{Tree, Forest, none, tree, ◌then◌, forest_height, height, max_height}
+use Rattle.c_syntax.specs.Tables.{size, roots, nodes, node_of, label_of, table_of, StandAll, no_ids, and_id, StandsFor, StandsWithin, InOrderFrom, IsInOrder}
 use Rattle.c_syntax.specs.TreeText.{line, lines, tree_lines}
 use Rattle.c_syntax.proofs.TreeLaws.{length-nodes}
 
@@ -104,12 +105,41 @@ kid_at m [] i d h lt = absurd (omega (arith, lt))
 kid_at m (id ∷ ids) zero d h lt = h.0
 kid_at m (id ∷ ids) (suc i) d h lt = kid_at m ids i d h.1 (omega (arith, lt))
 
+-- ---- the limit
+
+some_inside : (table : List SynNode) (i : ℕ) (n : SynNode) → slice_get table i ≡ Some n → i < length table
+some_inside [] i n e = absurd (cc e)
+some_inside (m ∷ table) zero n e = omega arith
+some_inside (m ∷ table) (suc i) n e = let more = some_inside table i n e in omega (arith, more)
+
+pub stands_inside : (table : List SynNode) (id : SynId) (t : Tree) → StandsFor table id t → id.number < length table
+stands_inside table id t (and_id _ _ n kids rest e k r) = some_inside table id.number n e
+
+first_height : (t : Tree) (rest f : Forest) (high : ℕ) → f ≡ t then rest → forest_height f ≤ high → height t ≤ high
+first_height t rest f high e low = let same = ap forest_height e in let most = le-max_left (height t) (forest_height rest) in omega (arith, low, same, most)
+
+rest_height : (t : Tree) (rest f : Forest) (high : ℕ) → f ≡ t then rest → forest_height f ≤ high → forest_height rest ≤ high
+rest_height t rest f high e low = let same = ap forest_height e in let most = le-max_right (height t) (forest_height rest) in omega (arith, low, same, most)
+
+-- a tree among the kids that are left stands within the limit too
+pub kid_within : (table : List SynNode) (level high : ℕ) (kid : SynId) (ids : List SynId) (f : Forest) → StandAll table (kid ∷ ids) f → forest_height f ≤ high
+    → level + (1 + high) ≤ max_height → StandsWithin table kid (level + 1)
+kid_within table level high kid ids f stands low limit =
+    let p = goes_on table kid ids f stands in
+    let first = first_height p.0 p.1 f high p.2 low in
+    record { of = p.0; stands = p.3; low = omega (arith, first, limit) }
+
+-- the root of a table stands within the limit
+pub root_within : (t : Tree) (table : List SynNode) (root : SynId) → table ≡ table_of t → root.number + 1 ≡ length table → height t ≤ max_height → StandsWithin table root 0
+root_within t table root whole last low =
+    record { of = t; stands = subst (λ ns. StandsFor ns root t) (sym whole) (root_stands t root (last ∙ ap length whole)); low = omega (arith, low) }
+
 -- ---- the text of a tree, line after line
 
 module _ (table : List SynNode) (level : ℕ) (out now : List ℕ) where
   -- behind the line of the root
   pub text_begins : (id : SynId) (t : Tree) (node : SynNode) → slice_get table id.number ≡ Some node → StandsFor table id t → now ≡ out ++ line level (label_of node)
-      → (rest : Forest) × StandAll table node.kids rest × (now ++ lines (level + 1) rest ≡ out ++ tree_lines level t)
+      → (rest : Forest) × StandAll table node.kids rest × (now ++ lines (level + 1) rest ≡ out ++ tree_lines level t) × (forest_height rest ≤ forest_height t.kids)
   text_begins id t node e stands put =
       let p = begins table id t.label t.kids node e stands in (
         t.kids,
@@ -117,12 +147,14 @@ module _ (table : List SynNode) (level : ℕ) (out now : List ℕ) where
         ap (λ o. o ++ lines (level + 1) t.kids) put
             ∙ append_assoc out (line level (label_of node)) (lines (level + 1) t.kids)
             ∙ ap (λ l. out ++ (line level l ++ lines (level + 1) t.kids)) (sym p.0),
+        omega arith,
       )
 
   -- behind the lines of a kid
-  pub text_goes_on : (kid : SynId) (ids : List SynId) (f : Forest) (whole : List ℕ) → StandAll table (kid ∷ ids) f → out ++ lines level f ≡ whole
-      → ((t : Tree) → StandsFor table kid t → now ≡ out ++ tree_lines level t) → (rest : Forest) × StandAll table ids rest × (now ++ lines level rest ≡ whole)
-  text_goes_on kid ids f whole stands text put =
+  pub text_goes_on : (kid : SynId) (ids : List SynId) (f : Forest) (whole : List ℕ) (high : ℕ) → StandAll table (kid ∷ ids) f → out ++ lines level f ≡ whole → forest_height f ≤ high
+      → ((t : Tree) → StandsFor table kid t → now ≡ out ++ tree_lines level t)
+      → (rest : Forest) × StandAll table ids rest × (now ++ lines level rest ≡ whole) × (forest_height rest ≤ high)
+  text_goes_on kid ids f whole high stands text low put =
       let p = goes_on table kid ids f stands in (
         p.1,
         p.4,
@@ -130,6 +162,7 @@ module _ (table : List SynNode) (level : ℕ) (out now : List ℕ) where
             ∙ append_assoc out (tree_lines level p.0) (lines level p.1)
             ∙ ap (λ g. out ++ lines level g) (sym p.2)
             ∙ text,
+        rest_height p.0 p.1 f high p.2 low,
       )
 
   -- behind the last kid

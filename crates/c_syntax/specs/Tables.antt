@@ -90,6 +90,12 @@ pub data StandAll (table : List SynNode) : List SynId → Forest → Type 0 wher
 abbrev pub StandsFor : List SynNode → SynId → Tree → Type 0
 StandsFor table id t = StandAll table (id ∷ []) (one t)
 
+-- the node with this id is the root of a tree whose lowest nodes are, from this level on, within the limit
+pub record StandsWithin (table : List SynNode) (id : SynId) (level : ℕ) : Type 0 where
+  pub of : Tree
+  pub stands : StandsFor table id of
+  pub low : level + height of ≤ max_height
+
 -- from this id on, kids come before their parents
 abbrev pub InOrderFrom : ℕ → List SynNode → Type 0
 InOrderFrom id [] = Unit {0}

@@ -14,7 +14,8 @@
 //
 // The theorem, on `SyntaxBuilder::push`: the stack is as before, but for the new tree in the place of its kids; on
 // `finish`: the table is that of the one tree on the stack. A table stands for one tree (`proofs/TableLaws.antt`), so
-// that what is said of the tree of a table is said of it. On `tree_text`: the text is that of the tree.
+// that what is said of the tree of a table is said of it. On `tree_text`: the text is that of the tree. On `Syntax::root`:
+// the root stands for a tree within the limit; what recurses over a tree asks for that, and is no deeper.
 //
 // `kind` has the kinds of nodes, `label` what a node has beside its kids, `builder` and `syntax` the table while it is
 // written and when it is whole, `text` the text.

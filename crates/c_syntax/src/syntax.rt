@@ -2,7 +2,7 @@
 ghost use Rattle.std.specs.Prelude.{◌≡◌, ◌+◌, ◌<◌, ◌≤◌, List, ℕ, length, slice_get, Some};
 ghost use Rattle.c_syntax.specs.Trees as trees;
 ghost use Rattle.c_syntax.specs.Trees.{one};
-ghost use Rattle.c_syntax.specs.Tables.{IsInOrder, StandsFor, size, table_of};
+ghost use Rattle.c_syntax.specs.Tables.{IsInOrder, StandsFor, StandsWithin, size, table_of};
 
 use crate::kind::SynKind;
 use cp_base::{Bytes, Items, Name};
@@ -72,9 +72,10 @@ impl Syntax {
         self.nodes.as_slice()
     }
 
-    /// The root, which is the last node.
+    /// The root, which is the last node. What recurses from it over the tree goes no deeper than the limit.
     pub fn root(&self) -> SynId
-        ensures { result.number + 1 ≡ length self.now }
+        ensures last { result.number + 1 ≡ length self.now }
+        ensures low { StandsWithin self.now result 0 }
     {
         SynId {
             number: self.nodes.len() - 1,

@@ -1,13 +1,16 @@
 // The text of a syntax tree.
-ghost use Rattle.std.specs.Prelude.{◌≡◌, ◌++◌, ◌+◌, ◌*◌, ◌<◌, length, codes, replicate, IfOk, OnOk};
+ghost use Rattle.std.specs.Prelude.{◌≡◌, ◌++◌, ◌*◌, ◌≤◌, codes, replicate, IfOk, OnOk};
 ghost use Rattle.c_syntax.specs.Trees as trees;
-ghost use Rattle.c_syntax.specs.Tables.{StandsFor, label_of, table_of, IsInOrder};
+ghost use Rattle.c_syntax.specs.Tables.{StandsFor, StandsWithin, label_of, table_of};
 ghost use Rattle.c_syntax.specs.TreeText.{behind, line, text_behind, tree_lines, tree_text};
 
 use crate::kind::{SynKind, kind_word};
-use crate::syntax::{SynId, SynNode, Syntax};
+use crate::syntax::{MAX_HEIGHT, SynId, SynNode, Syntax};
 use cp_base::Bytes;
 use std::alloc::{AllocError, Global};
+
+// Two blanks for each level that a tree can have.
+static BLANKS: [u8; 2 * MAX_HEIGHT] = [b' '; 2 * MAX_HEIGHT];
 
 /// A line for each node, the root first, with two blanks of indent for each level: the word of its
 /// kind, and then its text or number; for a string its length.
@@ -20,10 +23,9 @@ pub fn tree_text(alloc: Global, syntax: &Syntax) -> Result<Bytes, AllocError>
     Ok(out)
 }
 
-// The lines of a node and of all below it.
+// The lines of a node and of all below it. The recursion is as deep as the tree is high, which is within the limit.
 fn put_tree(out: &mut Bytes, table: &[SynNode], id: SynId, level: usize) -> Result<(), AllocError>
-    requires order { IsInOrder table.now }
-    requires within { id.number + level < length table.now }
+    requires { StandsWithin table.now id level }
     ensures { OnOk result ((tree : trees.Tree) → StandsFor table.now id tree → out.new ≡ out.old ++ tree_lines level tree) }
 {
     let node = &table[id.number];
@@ -35,6 +37,7 @@ fn put_tree(out: &mut Bytes, table: &[SynNode], id: SynId, level: usize) -> Resu
 }
 
 fn put_line(out: &mut Bytes, node: &SynNode, level: usize) -> Result<(), AllocError>
+    requires { level ≤ MAX_HEIGHT }
     ensures { OnOk result (out.new ≡ out.old ++ line level (label_of node.now)) }
 {
     put_indent(out, level)?;
@@ -45,12 +48,10 @@ fn put_line(out: &mut Bytes, node: &SynNode, level: usize) -> Result<(), AllocEr
 
 // Two blanks for each level.
 fn put_indent(out: &mut Bytes, level: usize) -> Result<(), AllocError>
+    requires { level ≤ MAX_HEIGHT }
     ensures { OnOk result (out.new ≡ out.old ++ replicate (2 * level) 32) }
 {
-    for _ in 0..level {
-        out.push_all(b"  ")?;
-    }
-    Ok(())
+    out.push_all(&BLANKS[..2 * level])
 }
 
 // What stands behind the word of the kind.

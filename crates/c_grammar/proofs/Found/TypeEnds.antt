@@ -6,7 +6,7 @@ use Rattle.c_lexer.specs.declared.token.Punct.TheVariants.{LeftBracket, RightBra
 use Rattle.c_lexer.specs.declared.token.Token.{Token}
 use Rattle.c_lexer.specs.declared.token.TokenKind.{TokenKind}
 use Rattle.c_lexer.specs.declared.token.TokenKind.TheVariants as token
-use Rattle.c_lexer.specs.Dump.{mark_text}
+use Rattle.c_lexer.specs.Marks.{mark_text}
 use Rattle.c_grammar.specs.Vocabulary.{is_identifier, is_type_word, is_storage_word, Place}
 use Rattle.c_grammar.specs.Scopes.{Names, is_typedef_name}
 use Rattle.c_grammar.specs.Derivation.{begins_with_typedef_name, is_typedef_token}

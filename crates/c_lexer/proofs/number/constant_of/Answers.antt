@@ -2,7 +2,7 @@ use Rattle.std.proofs.Common.{arith}
 use Rattle.std.proofs.lemmas.List.{length-reverse}
 use Rattle.std.proofs.lemmas.List.Sums.{prefix_len-le-length}
 use Rattle.std.specs.Prelude.{reverse}
-use Rattle.c_lexer.specs.Numbers.{is_suffix_byte}
+use Rattle.c_lexer.specs.Readings.{is_suffix_byte}
 use Rattle.c_lexer.proofs.number.constant_of.Goals as goal
 
 pub overflow_sub-text : goal.overflow_sub-text

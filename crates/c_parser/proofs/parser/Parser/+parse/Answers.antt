@@ -4,7 +4,7 @@ use Rattle.c_syntax.specs.Trees.{height, forest_of, plain_node, text_node, one, 
 use Rattle.c_grammar.specs.Scopes.{after, Names, add, after_parameter, entry, parameter_entries, parameters_of, entries_behind, is_bare_name, is_typedef_name}
 use Rattle.c_grammar.specs.Answers.{found}
 use Rattle.c_grammar.specs.Vocabulary.{Place, mark, is_identifier, is_type_word, is_storage_word}
-use Rattle.c_lexer.specs.Dump.{mark_text}
+use Rattle.c_lexer.specs.Marks.{mark_text}
 use Rattle.c_lexer.specs.declared.token.Punct.TheVariants.{LeftParenthesis, RightParenthesis, RightBracket, LeftBracket, Dot, Arrow, PlusPlus, MinusMinus, RightBrace, Semicolon}
 use Rattle.c_parser.specs.Steps.{size_of_operand, size_in_at, body_of, array_of, suffixes_at}
 use Rattle.c_grammar.specs.Reading.{goal_in, rows_in, Goal, Rows, below, behind_one, commas, suffixes, assignment_in, is_unary_by, behind_const}
