@@ -1,5 +1,5 @@
--- The operators of C at the edges of 32 bits, computed from their definitions. The values are worked by hand from C99 6.5
--- and two's complement: `min` is -2 ^ 31, `max` is 2 ^ 31 - 1, `top` is 2 ^ 32 - 1, which a signed operator reads as -1.
+-- The operators of C at the edges of 32 bits, computed from their definitions. The values are worked by hand from C99 6.5, two's
+-- complement and the two points that `c_types/specs/Operators.antt` calls this project's: `min` is -2 ^ 31, `max` is 2 ^ 31 - 1, `top` is 2 ^ 32 - 1, which a signed operator reads as -1.
 use Rattle.std.proofs.Common.{◌≡◌, refl, ℕ, List, [], ◌∷◌, Option, Some, None}
 use Rattle.std.specs.Prelude.{map}
 use Rattle.c_types.specs.declared.tree.COp.{COp}

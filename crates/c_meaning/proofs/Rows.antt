@@ -1,60 +1,17 @@
 -- Whole runs, computed from the definitions. Each unit is written as its typed tree, under its C text; the values are
--- worked by hand from C99.
-use Rattle.std.proofs.Common.{◌≡◌, refl, ℕ, Bool, List, [], ◌∷◌, Some, None, true, false, codes}
-use Rattle.cp_base.specs.declared.layout.Layout.{Layout}
-use Rattle.cp_base.specs.declared.op.Kind.TheVariants.{W32, I8}
-use Rattle.run_model.specs.declared.outcome.Outcome.{Outcome}
+-- worked by hand from C99, the numbers of turns and depths from the rules of this project.
+use Rattle.std.proofs.Common.{◌≡◌, refl, ℕ, [], ◌∷◌, Some, None, true, false, codes}
+use Rattle.cp_base.specs.declared.op.Kind.TheVariants.{W32, U8}
 use Rattle.run_model.specs.declared.outcome.Outcome.TheVariants.{Ended, Running, Undefined, Deep}
 use Rattle.c_types.specs.declared.tree.COp.TheVariants.{AddS, AddU, SubS, MulS, LtS, Eq}
 use Rattle.c_types.specs.declared.tree.Expr.{Expr}
 use Rattle.c_types.specs.declared.tree.Stmt.{Stmt}
-use Rattle.c_types.specs.declared.tree.Group.{Group}
-use Rattle.c_types.specs.declared.tree.Func.{Func}
 use Rattle.c_types.specs.declared.tree.CellValue.TheVariants.{Number}
 use Rattle.c_types.specs.declared.tree.Unit.{Unit as Whole}
-use Rattle.c_types.specs.Forms.{const, address, local, set_local, load, store, binary, choose, call, get_char, put_char, copy, block, drop_expr, unset, return_with, if_else, loop, break, switch, length_of, expr_row, stmt_row, group_row}
+use Rattle.c_types.specs.Forms.{const, address, local, load, store, binary, choose, get_char, put_char, copy, drop_expr, unset, if_else, loop, break}
 use Rattle.c_meaning.specs.Meaning.{at_turn}
-use Rattle.c_meaning.specs.Runs.{Ran, c_run}
-
--- ---- how units are written here
-
-abbrev a_layout : Layout
-a_layout = record { code = 0x1_0000; cdata = 0x1000_0000; top = 0x4000_0000; stack = 0x1_0000 }
-
-abbrev function : List ℕ → ℕ → ℕ → List Stmt → Func
-function name params locals body =
-    record { name = name; params = params; locals = locals; gives = true; body = block (length_of body) (stmt_row body) }
-
-abbrev main : ℕ → List Stmt → Func
-main locals body = function (codes "main") 0 locals body
-
-abbrev unit : List Func → Whole
-unit functions = record { objects = []; functions = functions }
-
-abbrev set : ℕ → Expr → Stmt
-set x e = drop_expr (set_local x e)
-
-abbrev give : Expr → Stmt
-give e = return_with (Some e)
-
-abbrev stmts_of : List Stmt → Stmt
-stmts_of ss = block (length_of ss) (stmt_row ss)
-
-abbrev call_with : ℕ → List Expr → Expr
-call_with f es = call f (length_of es) (expr_row es)
-
-abbrev switch_on : Expr → List Group → Stmt
-switch_on e gs = switch e (length_of gs) (group_row gs)
-
-abbrev group : List ℕ → Bool → List Stmt → Group
-group labels other body = record { labels = labels; other = other; body = body }
-
--- its run without input, at a depth of 3
-abbrev run_of : Whole → ℕ → Ran
-run_of u turns = c_run u a_layout [] 3 turns
-
-abbrev comes_to : Outcome → List ℕ → Ran
-comes_to outcome out = record { outcome = outcome; out = out }
+use Rattle.c_meaning.specs.Runs.{c_run}
+use Rattle.c_meaning.proofs.RowUnits.{a_layout, function, main, unit, set, give, stmts_of, call_with, switch_on, group, run_of, comes_to}
 
 -- ---- int main(void){int a=55,b=1,i=0,t;while(i<10){t=a;a=b;b=t;i=i+1;}return a;}
 
@@ -211,7 +168,7 @@ struct_copy = record {
       ∷ drop_expr (copy 8 4 (local 0) (address 0 0))
       ∷ drop_expr (store W32 (member (address 0 0) 4) (const 3))
       ∷ give (binary AddS
-      (binary AddS (load W32 (member (address 1 0) 4)) (load I8 (member (address 1 0) 0)))
+      (binary AddS (load W32 (member (address 1 0) 4)) (load U8 (member (address 1 0) 0)))
       (load W32 (member (copy 8 4 (address 1 0) (address 0 0)) 4))) ∷ []) ∷ [];
 }
 
@@ -221,13 +178,13 @@ struct_copy_ends = refl
 
 -- ---- what else a run may come to
 
--- int f(void){} int main(void){f();return f();}: the value that is dropped is not used, the other is
+-- int f(void){} int main(void){f();putchar('A');return f();}: the value that is dropped is not used, the other is
 value_that_is_not_there : run_of (unit (function (codes "f") 0 0 [] ∷ main 0 (
     drop_expr (call_with 0 []) ∷ drop_expr (put_char (const 65)) ∷ give (call_with 0 []) ∷ []) ∷ [])) 2 ≡ comes_to Undefined (65 ∷ [])
 unfolding at_turn c_run
 value_that_is_not_there = refl
 
--- int n; int main(void){if(n)return 0;n=1;return main()+5;} with its second call reaching `}`
+-- int n; int main(void){if(n){}else{n=1;return main()+5;}}: the second call reaches `}`
 main_that_is_called : run_of (record {
   objects = record { name = codes "n"; size = 4; align = 4; cells = [] } ∷ [];
   functions = main 0 (

@@ -106,7 +106,7 @@ module _ (u : Whole) (w : World) (again : Stmt → Step Flow) where
     eval (address object addend) = value (number_of w.base (object_offsets u.objects) (Address object addend))
     eval (local x) = read_local x >>= value
     eval (load kind at) = used (eval at) >>= read_data w kind >>= value
-    -- 6.5.16: the address of what is assigned to is found first
+    -- 6.5.16: where C99 leaves the order open, the address of what is assigned to is found first
     eval (set_local x e) = do
       v ← used (eval e)
       write_local x (Some v)
@@ -145,14 +145,14 @@ module _ (u : Whole) (w : World) (again : Stmt → Step Flow) where
     eval (seq l r) = eval l >> eval r
     -- 6.5.2.2
     eval (call function n arguments) = eval_all arguments >>= call_of (slice_get u.functions function)
-    -- 7.19.7.6 and 7.19.7.3
+    -- 7.19.7.6 and 7.19.7.9
     eval get_char = read_byte w >>= value
     eval (put_char e) = do
       v ← used (eval e)
       write_byte v
       value (v % 256)
 
-    -- from left to right
+    -- from left to right, where C99 leaves the order open (6.5.2.2, 10)
     pub eval_all : {n : Count} → ExprRow n → Step (List ℕ)
     eval_all no_exprs = pure []
     eval_all (an_expr e es) = do
@@ -179,6 +179,7 @@ module _ (u : Whole) (w : World) (again : Stmt → Step Flow) where
     pub exec : Stmt → Step Flow
     -- 6.8.2
     exec (block n ss) = exec_all ss
+    -- 6.2.4, 5
     exec (unset x) = write_local x None >> pure Normal
     -- 6.8.3
     exec (drop_expr e) = dropped (Some e) >> pure Normal

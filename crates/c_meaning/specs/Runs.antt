@@ -19,7 +19,7 @@ abbrev pub main_of : List Func → Option Func
 main_of [] = None
 main_of (f ∷ fs) = if is_main f then Some f else main_of fs
 
--- the status of a run whose main ended so: the value that it returned, modulo 256, or 0 (5.1.2.2.3)
+-- the status of a run whose main ended so: the value that it returned, or 0 (5.1.2.2.3), modulo 256
 abbrev pub status_of : Flow → ℕ
 status_of (Returns (Some v)) = v % 256
 status_of flow = 0

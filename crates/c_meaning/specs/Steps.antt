@@ -71,7 +71,7 @@ turn_of (suc turns) step = λ s. step (with_store s (record s.store { turns = tu
 abbrev pub turn : {A : Type 0} → Step A → Step A
 turn step = λ s. turn_of s.store.turns step s
 
--- ---- the locals (6.2.4, 5: a local has no value before one is written)
+-- ---- the locals (6.2.4, 5: a local has no value before one is written; that reading it then is undefined is this project's)
 
 -- the value of a local that has one
 abbrev pub value_at : Option (Option ℕ) → Option ℕ

@@ -18,7 +18,7 @@ pub fn output_grows()
         → IsPrefix s.store.out (out_of (eval u w (at_turn u w turns) e s)) }
 {}
 
-/// The turns left only fall, and a run is cut off where none is left.
+/// The turns left only fall, and a run is cut off only where none is left.
 pub fn turns_fall()
     ensures statement { (u : Whole) (w : World) (turns : ℕ) (st : Stmt) (s t : State) (flow : Flow)
         → s.store.turns ≤ turns

@@ -1,5 +1,7 @@
--- The operators of C on words. None where the result is undefined: C99 6.5, 5 (a value that its type does not have),
--- 6.5.5, 5 and 6 (division), 6.5.7, 3 and 4 (shifts). A signed operator reads words as numbers in two's complement.
+-- The operators of C on words. None where the result is undefined: C99 6.5, 5 (a value that its type does not have), 6.5.5, 5
+-- (division), 6.5.7, 3 and 4 (shifts). A signed operator reads words as numbers in two's complement. Two points are this
+-- project's: a remainder is undefined where the quotient is not representable, and a negative number is shifted to the right
+-- with its sign, which 6.5.7, 5 leaves open.
 use Rattle.std.specs.Prelude.{ℕ, ◌+◌, ◌*◌, ◌^◌, Bool, true, false, ◌==◌, nat_lt, ◌||◌, if◌then◌else◌, Option, Some, None, ℤ, pos, negsuc, int_div, int_rem, ◌+ℤ◌, ◌-ℤ◌, ◌*ℤ◌, bit_and, bit_or, bit_xor}
 use Rattle.c_types.specs.declared.tree.COp.{COp}
 use Rattle.c_types.specs.declared.tree.COp.TheVariants as op

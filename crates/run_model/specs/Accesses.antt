@@ -1,5 +1,6 @@
--- Accesses to the data of a program: its bytes, of which the first has the address `base`. C99 6.2.6.1 (objects are
--- bytes) and 6.5.3.2, 4 (an access that is not aligned or not in an object is undefined).
+-- Accesses to the data of a program: its bytes, of which the first has the address `base`. C99 6.2.6.1 (objects are bytes).
+-- The data is one flat memory, this project's choice: an access has to be aligned and in the data, and may be of any type and
+-- in the padding between objects, where 6.5, 7 and 6.5.3.2, 4 allow less.
 use Rattle.std.specs.Prelude.{ℕ, zero, suc, ◌+◌, ◌-◌, ◌*◌, ◌/◌, ◌%◌, Bool, ◌==◌, nat_le, ◌&&◌, ◌||◌, if◌then◌else◌, List, [], ◌∷◌, ◌++◌, length, take, drop, Option, Some, None}
 use Rattle.cp_base.specs.declared.op.Kind.{Kind}
 use Rattle.cp_base.specs.declared.op.Kind.TheVariants as kind

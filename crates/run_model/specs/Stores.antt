@@ -21,8 +21,8 @@ pub record Store : Type 0 where
 abbrev pub first_store : List ℕ → ℕ → Store
 first_store bytes turns = record { bytes = bytes; taken = 0; out = []; turns = turns; active = 1 }
 
--- the word that reading a byte gives: that byte, or -1 at the end of the input (C99 7.19.7.6, 3). An input may be any
--- list of numbers, and each is taken modulo 256.
+-- the word that reading a byte gives: that byte, or -1 at the end of the input, where C99 has some negative number (7.19.1, 3;
+-- 7.19.7.6, 3). An input may be any list of numbers, and each is taken modulo 256.
 abbrev pub byte_read : Option ℕ → ℕ
 byte_read (Some byte) = byte % 256
 byte_read None = 2 ^ 32 - 1

@@ -7,10 +7,10 @@
 //
 // The idea: two runs agree where their stores are equal, so each form of a program changes the same store.
 //
-// The invariant: the data keeps its length, the output only grows, and the turns left only fall.
+// The invariant: the output only grows, and the turns left only fall. The crates of the runs prove it, each of its own.
 //
-// Source: C99 5.1.2.3 and 6.2.6; memory is little-endian, as in The RISC-V Instruction Set Manual, Volume I, 2.6. That
-// a run is over a number of turns is as in CompCert's and CakeML's interpreters.
+// Source: C99 5.1.2.3 and 6.2.6; that memory is little-endian is this project's choice. That a run is over a number of turns
+// is as in CakeML (Owens, Myreen, Kumar and Tan, Functional Big-Step Semantics, 2016).
 #![tactic(auto)]
 
 mod outcome;
