@@ -1,0 +1,4 @@
+pub mod Trees
+pub mod RowsDeclared
+pub mod RowsExpressions
+pub mod RowsCalls
