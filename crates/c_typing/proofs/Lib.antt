@@ -2,3 +2,4 @@ pub mod Trees
 pub mod RowsDeclared
 pub mod RowsExpressions
 pub mod RowsCalls
+pub mod RowsTyped
