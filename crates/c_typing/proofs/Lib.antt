@@ -1,5 +1,5 @@
-pub mod Trees
+pub mod Texts
 pub mod RowsDeclared
 pub mod RowsExpressions
-pub mod RowsCalls
+pub mod RowsUses
 pub mod RowsTyped
