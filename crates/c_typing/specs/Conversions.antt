@@ -87,7 +87,7 @@ points_to_void t = false
 abbrev pub are_comparable : Typing → Typing → Bool
 are_comparable x y =
     (is_pointer x.type && is_pointer y.type && (same x.type y.type || points_to_void x.type || points_to_void y.type))
-        || (is_pointer x.type && is_null y.constant) || (is_null x.constant && is_pointer y.type)
+    || (is_pointer x.type && is_null y.constant) || (is_null x.constant && is_pointer y.type)
 
 -- 6.5.16.1, 1: a value may be assigned to an object of this type
 abbrev pub is_assignable_by : CType → CType → Bool → Bool

@@ -101,7 +101,7 @@ specs p js node =
     given (all_of (map (λ n. spec_meaning (judgement_at js n)) node.kids)) λ types.
     let type = said_type (filter is_type_word words) (joined types) in
     verdict (bad_type_words type node.id ++ bad_storage_class place (filter is_storage words) (stand_before_function p node) node.id)
-        (a_type (unwrap_or type void))
+    (a_type (unwrap_or type void))
 
 -- ---- structs and enums (6.7.2.1 to 6.7.2.3)
 
@@ -195,7 +195,7 @@ unfoldable pub enumerator_value : Places → List Judgement → Node → Judgeme
 enumerator_value p js node =
     given (typing_at js (kid node 0)) λ x.
     verdict (enumerator_faults p js node (name_of p node.id) ++ not_constant x.constant (kid node 0) ++ out_of_range x.constant ++ no_int x.type x.constant (kid node 0))
-        (enumerates (word_in x.constant))
+    (enumerates (word_in x.constant))
 
 unfoldable pub enumerator_node : Places → List Judgement → Node → Judgement
 enumerator_node p js node =

@@ -91,8 +91,8 @@ variable_by p js node e typedef_name = waits
 variable_by p js node e enumerator = given (word_of_enumerator (judgement_at js e.node)) λ w. means (expression (number_of_type int w))
 variable_by p js node e function_name = given (type_of_name js e) λ t.
     verdict (function_as_value (is_called p (length p.nodes) node.id) node.id
-            ++ no_definition (is_getchar e.text || is_putchar e.text || is_some (function_number p e.text)) node.id)
-        (expression (record { type = t; form = callee (callee_of p e.text); code = const 0; constant = no_constant }))
+    ++ no_definition (is_getchar e.text || is_putchar e.text || is_some (function_number p e.text)) node.id)
+    (expression (record { type = t; form = callee (callee_of p e.text); code = const 0; constant = no_constant }))
 variable_by p js node e static_object = given (type_of_name js e) λ t.
     verdict (no_definition (is_defined_object p e) node.id) (expression (object_typing t (object_number p e)))
 variable_by p js node e local_entity = given (type_of_name js e) λ t. means (expression (local_typing t (local_number p e)))
@@ -112,7 +112,7 @@ abbrev pub written_before : ℕ → Typing → (Expr → Expr) → Form → Expr
 written_before h x new (in_local k) = seq (set_local h (local k)) (seq (set_local k (new (local h))) (local h))
 written_before h x new f =
     seq (set_local h x.code) (seq (set_local (h + 1) (load (access_of x.type) (local h)))
-        (seq (store (access_of x.type) (local h) (new (local (h + 1)))) (local (h + 1))))
+    (seq (store (access_of x.type) (local h) (new (local (h + 1)))) (local (h + 1))))
 
 -- how many hidden locals that takes: in memory one for the address, and one for an old value that is the result
 abbrev pub hidden_for : Form → ℕ → ℕ
@@ -144,12 +144,12 @@ step_faults ls x n = by (not_assignable x n)
 unfoldable pub prefix_step : Places → List Judgement → Node → Typing → Judgement
 prefix_step p js node x =
     verdict (step_faults (layouts js) x node.id)
-        (expresses (result x.type (written (hidden_before p js) x (stepped (layouts js) (step_operator node.label.text) x.type) x.form) no_constant) (hidden_for x.form 0))
+    (expresses (result x.type (written (hidden_before p js) x (stepped (layouts js) (step_operator node.label.text) x.type) x.form) no_constant) (hidden_for x.form 0))
 
 unfoldable pub postfix_step : Places → List Judgement → Node → Typing → Judgement
 postfix_step p js node x =
     verdict (step_faults (layouts js) x node.id)
-        (expresses (result x.type (written_before (hidden_before p js) x (stepped (layouts js) (step_operator node.label.text) x.type) x.form) no_constant) (hidden_for x.form 1))
+    (expresses (result x.type (written_before (hidden_before p js) x (stepped (layouts js) (step_operator node.label.text) x.type) x.form) no_constant) (hidden_for x.form 1))
 
 -- 6.5.2.1: a pointer to a type with a size and an integer, in either order
 abbrev pub element_type : List Layout → CType → CType → Option CType
@@ -174,7 +174,7 @@ subscript js node x y =
     let type = element_type ls a.type b.type in
     let t = unwrap_or type a.type in
     verdict (bad_operand (is_some type) node.id)
-        (expression (element_typing ls t b.type a b (subscript_constant (size_of ls t) b.type (over x a) (over y b))))
+    (expression (element_typing ls t b.type a b (subscript_constant (size_of ls t) b.type (over x a) (over y b))))
   where
     -- an array stays at its place; an index is a value
     over : Typing → Typing → Typing
@@ -205,7 +205,7 @@ unfoldable pub called : Node → Callee → CType → List Typing → Judgement
 called node c (function r ps) xs =
     let args = arguments (listed ps) (map value_of xs) (other_kids node) in
     verdict (wrong_number (length (listed ps)) (length xs) node.id ++ argument_faults args)
-        (expression (result r (call_code c (map passed args)) no_constant))
+    (expression (result r (call_code c (map passed args)) no_constant))
 called node c t xs = waits
 
 unfoldable pub call_by : Node → Typing → List Typing → Form → Judgement
@@ -247,7 +247,7 @@ arrow js node x =
     let v = value_of x in
     let field = field_of (layouts js) (target_of v.type) node.label.text in
     verdict (no_such_member field node.id ++ dereferenced_struct (layouts js) v.type node.id)
-        (expression (member_typing in_memory v.code (unwrap_or field no_field) no_constant))
+    (expression (member_typing in_memory v.code (unwrap_or field no_field) no_constant))
 
 -- ---- unary operators (6.5.3)
 
@@ -283,7 +283,7 @@ sign_operator node v =
 unfoldable pub not_operator : Node → Typing → Judgement
 not_operator node v =
     verdict (bad_operand (is_scalar v.type) node.id)
-        (expression (valued (integer int) (binary op.Eq v.code (const 0)) (operated op.Eq node.id v.constant (number 0))))
+    (expression (valued (integer int) (binary op.Eq v.code (const 0)) (operated op.Eq node.id v.constant (number 0))))
 
 unfoldable pub unary : Places → List Judgement → Node → Typing → Judgement
 unary p js node x =
@@ -322,8 +322,8 @@ binary_by js node x y o =
     let ls = layouts js in
     let type = result_type ls o.class x y in
     verdict (bad_operand (is_some type) node.id)
-        (expression (valued (unwrap_or type x.type) (binary_code ls o x y o.class)
-            (binary_constant ls (operator_with o o.class x.type y.type) node.id o.class x.type y.type x.constant y.constant)))
+    (expression (valued (unwrap_or type x.type) (binary_code ls o x y o.class)
+    (binary_constant ls (operator_with o o.class x.type y.type) node.id o.class x.type y.type x.constant y.constant)))
 
 unfoldable pub binary_operator : List Judgement → Node → Typing → Typing → Judgement
 binary_operator js node x y = given (operator_of node.label.text) (binary_by js node x y)
@@ -334,7 +334,7 @@ unfoldable pub conditional : List Judgement → Node → Typing → Typing → T
 conditional js node c x y =
     let type = choice_type (layouts js) x y in
     verdict (bad_operand (is_scalar c.type && is_some type) node.id)
-        (expression (result (unwrap_or type x.type) (choose c.code x.code y.code) (chosen_constant c.constant x.constant y.constant)))
+    (expression (result (unwrap_or type x.type) (choose c.code x.code y.code) (chosen_constant c.constant x.constant y.constant)))
 
 unfoldable pub comma : Typing → Typing → Judgement
 comma x y = means (expression (result y.type (seq x.code y.code) no_constant))
@@ -365,7 +365,7 @@ is_compound ls o x y = is_integer y.type && is_some (result_type ls o.class (val
 unfoldable pub compound_by : Places → List Judgement → Node → Typing → Typing → Operator → Judgement
 compound_by p js node x y o =
     verdict (by (not_assignable x node.id))
-        (expresses (result x.type (written (hidden_before p js) x (compound_new (layouts js) o x y) x.form) no_constant) (hidden_for x.form 0))
+    (expresses (result x.type (written (hidden_before p js) x (compound_new (layouts js) o x y) x.form) no_constant) (hidden_for x.form 0))
   where
     by : List Fault → List Fault
     by [] = bad_operand (is_compound (layouts js) o x y) node.id

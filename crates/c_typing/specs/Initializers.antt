@@ -113,7 +113,7 @@ is_too_long t bytes = false
 abbrev pub scalar_part : List Layout → Bool → CType → Typing → ℕ → Part
 scalar_part ls static t v n =
     part (if static then constant_cell t 0 (size_of ls t) v.constant else [])
-        (bad_conversion t v n ++ (if static then not_constant_for t v.constant n ++ out_of_range v.constant else []))
+    (bad_conversion t v n ++ (if static then not_constant_for t v.constant n ++ out_of_range v.constant else []))
 
 -- the value n for an object of this type
 abbrev pub value_part : List Layout → Bool → CType → ℕ → Option Typing → Option Part
@@ -230,7 +230,7 @@ unfoldable pub initialized_object : Places → List Judgement → ℕ → Name �
 initialized_object p js n e before q =
     let t = completed before (given_count p js (node_at p.nodes n) (kind_at p.nodes n)) in
     verdict (q.faults ++ completed_faults p js e before t (unwrap_or (next_to_name p.nodes e.node) nowhere).id)
-        (initialized t (object_code p js e t n e.entity) q.cells)
+    (initialized t (object_code p js e t n e.entity) q.cells)
 
 abbrev pub bare_code : Places → Name → Entity → List Stmt
 bare_code p e automatic = unset (local_number p e) ∷ []
@@ -239,8 +239,8 @@ bare_code p e entity = []
 unfoldable pub init_by : Places → List Judgement → Node → CType → Name → Judgement
 init_by p js node t e =
     if has_kid node 1 then
-        (if is_object e.entity then given (part_for p js (is_static e.entity) false t (kid node 1)) (initialized_object p js (kid node 1) e t)
-        else verdict (bad_initializer true (kid node 1)) (initialized t [] []))
+    (if is_object e.entity then given (part_for p js (is_static e.entity) false t (kid node 1)) (initialized_object p js (kid node 1) e t)
+    else verdict (bad_initializer true (kid node 1)) (initialized t [] []))
     else means (initialized t (bare_code p e e.entity) [])
 
 unfoldable pub init_declarator : Places → List Judgement → Node → Judgement

@@ -63,7 +63,7 @@ agree_with t (Some u) = agree t u
 abbrev pub may_be_again : Places → Name → Name → Bool
 may_be_again p e a =
     (are_functions a.entity e.entity || (is_static a.entity && is_static e.entity && is_file_scope p.nodes e.scope))
-        && not (is_initialized p e && list_any (is_initialized p) (earlier p e))
+    && not (is_initialized p e && list_any (is_initialized p) (earlier p e))
 
 abbrev pub is_refused : Places → Name → CType → Option CType → Option Name → Bool
 is_refused p e type before None = false

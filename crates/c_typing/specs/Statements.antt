@@ -47,7 +47,7 @@ declaration p js node =
     given (type_at js specs.id) λ t.
     given (all_of (map (λ n. declarator_code (judgement_at js n)) (other_kids node))) λ parts.
     means (if says p.nodes (codes "static") specs || says p.nodes (codes "extern") specs || says p.nodes (codes "typedef") specs
-        then performs [] else does (block_of (joined_code parts)))
+    then performs [] else does (block_of (joined_code parts)))
 
 unfoldable pub block_node : List Judgement → Node → Judgement
 block_node js node = given (all_of (map (code_at js) node.kids)) λ parts. means (does (block_of (joined_code parts)))
@@ -133,8 +133,8 @@ return_faults t v node = bad_conversion t v (kid node 0)
 unfoldable pub return_by : List Judgement → Node → CType → Judgement
 return_by js node r =
     if has_kid node 0 then
-        (given (typing_at js (kid node 0)) λ x.
-        verdict (return_faults r (value_of x) node) (does (return_with (Some (converted_to r (value_of x))))))
+    (given (typing_at js (kid node 0)) λ x.
+    verdict (return_faults r (value_of x) node) (does (return_with (Some (converted_to r (value_of x))))))
     else verdict (bad_return false r node.id) (does (return_with None))
 
 unfoldable pub return_statement : Places → List Judgement → Node → Judgement
