@@ -66,7 +66,11 @@ rule_3 =
     breaks "typedef int t;typedef int t;int main(void){return 0;}" 3 "name t" 1 ∷
     keeps "typedef int t;void f(void){typedef int t;}int main(void){return 0;}" ∷
     breaks "static int a[2];static int a[]={1};int main(void){return 0;}" 3 "name a" 1 ∷
-    keeps "static int a[1];static int a[]={1};int main(void){return 0;}" ∷ []
+    keeps "static int a[1];static int a[]={1};int main(void){return 0;}" ∷
+    breaks "struct s{int a,a;};int main(void){return 0;}" 3 "member" 0 ∷
+    keeps "struct s{int a,b;};int main(void){return 0;}" ∷
+    breaks "enum s{A};struct s{int a;};int main(void){return 0;}" 3 "struct s" 0 ∷
+    keeps "enum s{A};void f(void){struct s{int a;};}int main(void){return 0;}" ∷ []
 
 rule_3_holds : Hold rule_3
 unfolding holds
@@ -106,7 +110,17 @@ rule_5 =
     breaks "int x=sizeof(void);int main(void){return 0;}" 5 "typename" 0 ∷
     keeps "int x=sizeof(void*);int main(void){return 0;}" ∷
     breaks "static int a[]={sizeof a};int main(void){return 0;}" 5 "var a" 0 ∷
-    keeps "static int a[]={sizeof a[0]};int main(void){return 0;}" ∷ []
+    keeps "static int a[]={sizeof a[0]};int main(void){return 0;}" ∷
+    breaks "int f(void a);int main(void){return 0;}" 5 "name a" 0 ∷
+    keeps "int f(void*a);int main(void){return 0;}" ∷
+    breaks "int f(int a,void);int main(void){return 0;}" 5 "noname" 0 ∷
+    keeps "int f(int a,void*);int main(void){return 0;}" ∷
+    breaks "struct s*p;int main(void){return sizeof *p;}" 5 "unary *" 0 ∷
+    keeps "struct s*p;int main(void){return sizeof p;}" ∷
+    breaks "int f(void a[]);int main(void){return 0;}" 5 "array" 0 ∷
+    keeps "int f(int[]);int main(void){return 0;}" ∷
+    breaks "void f(void){}int main(void){return sizeof f();}" 5 "call" 0 ∷
+    keeps "int f(void){return 0;}int main(void){return sizeof f();}" ∷ []
 
 rule_5_holds : Hold rule_5
 unfolding holds
@@ -142,7 +156,11 @@ rule_7 =
     breaks "typedef int t[];int main(void){return 0;}" 7 "array" 0 ∷
     keeps "typedef int t[1];int main(void){return 0;}" ∷
     breaks "int x=sizeof(int[]);int main(void){return 0;}" 7 "array" 0 ∷
-    keeps "int x=sizeof(int[1]);int main(void){return 0;}" ∷ []
+    keeps "int x=sizeof(int[1]);int main(void){return 0;}" ∷
+    breaks "int f(int a[3][]);int main(void){return 0;}" 7 "array" 1 ∷
+    keeps "int f(int a[][3]);int main(void){return 0;}" ∷
+    breaks "int f(int(*a)[]);int main(void){return 0;}" 7 "array" 0 ∷
+    keeps "int f(int a[0]);int main(void){return 0;}" ∷ []
 
 rule_7_holds : Hold rule_7
 unfolding holds

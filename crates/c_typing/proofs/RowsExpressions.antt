@@ -22,7 +22,17 @@ rule_8 =
     breaks "static char*p=(char*)1;int main(void){return 0;}" 8 "cast" 0 ∷
     keeps "static char*p=(char*)0;int main(void){return 0;}" ∷
     breaks "int n;int x=1||n;int main(void){return 0;}" 8 "binary ||" 0 ∷
-    keeps "int x=1||1/0;int main(void){return 0;}" ∷ []
+    keeps "int x=1||1/0;int main(void){return 0;}" ∷
+    breaks "static int*g;static int*q=&g[1];int main(void){return 0;}" 8 "unary &" 0 ∷
+    keeps "static int g[2];static int*q=&g[1];int main(void){return 0;}" ∷
+    breaks "static int g[2][2];static int*q=g[1];int main(void){return 0;}" 8 "index" 0 ∷
+    keeps "static int g[2][2];static int*q=&(g[1][1]);int main(void){return 0;}" ∷
+    breaks "int f(void){return 1;}static int a[0&&f()];int main(void){return 0;}" 8 "binary &&" 0 ∷
+    keeps "static int a[0||sizeof(1/0)];int main(void){return 0;}" ∷
+    breaks "static int a[(1,2)];int main(void){return 0;}" 8 "paren" 0 ∷
+    keeps "static int a[(2)];int main(void){return 0;}" ∷
+    breaks "static int x=(int)\"a\";int main(void){return 0;}" 8 "cast" 0 ∷
+    keeps "static int x=(int)'a';int main(void){return 0;}" ∷ []
 
 rule_8_holds : Hold rule_8
 unfolding holds
@@ -40,7 +50,11 @@ rule_9 =
     breaks "enum{A=2147483647,B};int main(void){return 0;}" 9 "enumer B" 0 ∷
     keeps "enum{A=2147483646,B};int main(void){return 0;}" ∷
     breaks "int x=1<<32;int main(void){return 0;}" 9 "binary <<" 0 ∷
-    keeps "int x=0&&1<<32;int main(void){return 0;}" ∷ []
+    keeps "int x=0&&1<<32;int main(void){return 0;}" ∷
+    breaks "static int g[2];static int*q=&g[1/0];int main(void){return 0;}" 9 "binary /" 0 ∷
+    keeps "static int g[2];static int*q=g+1/1;int main(void){return 0;}" ∷
+    breaks "int f(int n){switch(n){case 1<<-1:;}return 0;}int main(void){return 0;}" 9 "binary <<" 0 ∷
+    keeps "int f(int n){switch(n){case 1?1:1<<-1:;}return 0;}int main(void){return 0;}" ∷ []
 
 rule_9_holds : Hold rule_9
 unfolding holds
@@ -84,7 +98,11 @@ rule_12 =
     breaks "int x;int main(void){(x,x)+=1;return 0;}" 12 "assign +=" 0 ∷
     keeps "int x;int main(void){(x)+=1;return 0;}" ∷
     breaks "static int a[1];int main(void){a++;return 0;}" 12 "post ++" 0 ∷
-    keeps "static int a[1];int main(void){a[0]++;return 0;}" ∷ []
+    keeps "static int a[1];int main(void){a[0]++;return 0;}" ∷
+    breaks "struct s{int x;}a,b;int main(void){(a=b).x=1;return 0;}" 12 "assign =" 1 ∷
+    keeps "struct s{int x;}a,b;int main(void){(a=b,&b)->x=1;return 0;}" ∷
+    breaks "struct s{int x[2];}a,b;int main(void){return &(a=b).x[0]==&(a=b).x;}" 12 "unary &" 1 ∷
+    keeps "struct s{int x[2];}a,b;int main(void){return &(a=b).x[0]==a.x;}" ∷ []
 
 rule_12_holds : Hold rule_12
 unfolding holds
@@ -128,7 +146,17 @@ rule_13 =
     breaks "void*p;int main(void){p++;return 0;}" 13 "post ++" 0 ∷
     keeps "char*p;int main(void){p++;return 0;}" ∷
     breaks "void f(void){}int main(void){return -f();}" 13 "unary -" 0 ∷
-    keeps "int f(void){return 1;}int main(void){return -f();}" ∷ []
+    keeps "int f(void){return 1;}int main(void){return -f();}" ∷
+    breaks "int*p;int main(void){return(1?p:1)!=0;}" 13 "cond" 0 ∷
+    keeps "int*p;int main(void){return(1?p:0)!=0;}" ∷
+    breaks "struct s{int x;}a;struct t{int x;}b;int main(void){return 1?a:b,0;}" 13 "cond" 0 ∷
+    keeps "struct s{int x;}a,b;int main(void){return 1?a:b,0;}" ∷
+    breaks "void f(void){}int main(void){return 1?f():0,0;}" 13 "cond" 0 ∷
+    keeps "void f(void){}int main(void){return 1?f():(void)0,0;}" ∷
+    breaks "int*p;int i;int main(void){i+=p;return 0;}" 13 "assign +=" 0 ∷
+    keeps "int*p;int i;int main(void){p+=i;return 0;}" ∷
+    breaks "struct s*p,*q;int main(void){return p-q;}" 13 "binary -" 0 ∷
+    keeps "struct s{int x;}*p,*q;int main(void){return p-q;}" ∷ []
 
 rule_13_holds : Hold rule_13
 unfolding holds

@@ -18,7 +18,11 @@ rule_14 =
     breaks "struct s{int a;}x;struct t{int a;}y;int main(void){x=y;return 0;}" 14 "var y" 0 ∷
     keeps "struct s{int a;}x;struct s y;int main(void){x=y;return 0;}" ∷
     ("static char a[2]={\"a\",1};int main(void){return 0;}", at 14 "string" 0 ∷ at 8 "string" 0 ∷ []) ∷
-    keeps "static char a[2]={\"a\"};int main(void){return 0;}" ∷ []
+    keeps "static char a[2]={\"a\"};int main(void){return 0;}" ∷
+    breaks "int*p;int main(void){int*q={0},*r={p},i={p};return 0;}" 14 "var p" 1 ∷
+    keeps "int*p;int main(void){int*q={0},*r={p},i={0};return 0;}" ∷
+    breaks "int f(int*p){return p;}int main(void){return 0;}" 14 "var p" 0 ∷
+    keeps "_Bool f(int*p){return p;}int main(void){return 0;}" ∷ []
 
 rule_14_holds : Hold rule_14
 unfolding holds
@@ -46,7 +50,9 @@ rule_16 =
     breaks "int(*p)(void);int main(void){return p();}" 16 "call" 0 ∷
     keeps "int(*p)(void);int main(void){return p==0;}" ∷
     breaks "int(*f)(void){return 1;}int main(void){return 0;}" 16 "takes" 0 ∷
-    keeps "int*f(void){return 0;}int main(void){return 0;}" ∷ []
+    keeps "int*f(void){return 0;}int main(void){return 0;}" ∷
+    breaks "int main(void){return 1();}" 16 "call" 0 ∷
+    keeps "int f(void){return 1;}int main(void){return((f))();}" ∷ []
 
 rule_16_holds : Hold rule_16
 unfolding holds
@@ -60,7 +66,9 @@ rule_17 =
     breaks "extern int x;int main(void){return sizeof x;}" 17 "var x" 0 ∷
     keeps "extern int x;int main(void){return sizeof x;}int x;" ∷
     breaks "extern int getchars(void);int main(void){return getchars();}" 17 "var getchars" 0 ∷
-    keeps "extern int getchar(void);int main(void){return getchar();}" ∷ []
+    keeps "extern int getchar(void);int main(void){return getchar();}" ∷
+    breaks "typedef int f(void);f g;int main(void){return g();}" 17 "var g" 0 ∷
+    keeps "typedef int f(void);f g;int main(void){return g();}int g(void){return 0;}" ∷ []
 
 rule_17_holds : Hold rule_17
 unfolding holds
@@ -72,7 +80,9 @@ rule_18 =
     breaks "void f(void){return 1;}int main(void){return 0;}" 18 "return" 0 ∷
     keeps "void f(void){return;}int main(void){return 0;}" ∷
     breaks "int main(void){return;}" 18 "return" 0 ∷
-    keeps "int main(void){}" ∷ []
+    keeps "int main(void){}" ∷
+    breaks "void f(void){}void g(void){return f();}int main(void){return 0;}" 18 "return" 0 ∷
+    keeps "void f(void){}void g(void){f();return;}int main(void){return 0;}" ∷ []
 
 rule_18_holds : Hold rule_18
 unfolding holds
@@ -110,7 +120,9 @@ rule_21 =
     breaks "int f(int g(void));int main(void){return 0;}" 21 "takes" 1 ∷
     keeps "int f(int(*g)(void));int main(void){return 0;}" ∷
     breaks "int f(void)[2];int main(void){return 0;}" 21 "takes" 0 ∷
-    keeps "int(*f(void))[2];int main(void){return 0;}" ∷ []
+    keeps "int(*f(void))[2];int main(void){return 0;}" ∷
+    breaks "typedef int t[2];t f(void);int main(void){return 0;}" 21 "takes" 0 ∷
+    keeps "typedef int t[2];int f(t a){return *a;}int main(void){return 0;}" ∷ []
 
 rule_21_holds : Hold rule_21
 unfolding holds
@@ -124,7 +136,9 @@ rule_22 =
     breaks "int main(int a){return 0;}" 22 "takes" 0 ∷
     keeps "int main(){return 0;}" ∷
     breaks "void main(void){}" 22 "takes" 0 ∷
-    keeps "int main(void){}" ∷ []
+    keeps "int main(void){}" ∷
+    breaks "int main;" 22 "unit" 0 ∷
+    keeps "typedef int t;t main(void){return 0;}" ∷ []
 
 rule_22_holds : Hold rule_22
 unfolding holds
@@ -140,7 +154,11 @@ rule_23 =
     breaks "enum{getchar};int main(void){return 0;}" 23 "enumer getchar" 0 ∷
     keeps "struct getchar{int putchar;};int main(void){return 0;}" ∷
     breaks "int f(int putchar);int main(void){return 0;}" 23 "name putchar" 0 ∷
-    keeps "int f(int put);int main(void){return 0;}" ∷ []
+    keeps "int f(int put);int main(void){return 0;}" ∷
+    breaks "static int putchar;int main(void){return 0;}" 23 "name putchar" 0 ∷
+    keeps "struct putchar*p;int main(void){return 0;}" ∷
+    breaks "typedef int getchar;int main(void){return 0;}" 23 "name getchar" 0 ∷
+    keeps "extern int getchar(void);int main(void){return 0;}" ∷ []
 
 rule_23_holds : Hold rule_23
 unfolding holds
@@ -160,7 +178,13 @@ rule_24 =
     breaks "typedef int t=1;int main(void){return 0;}" 24 "int" 0 ∷
     keeps "typedef int t;int main(void){return 0;}" ∷
     breaks "static int a[1]=1;int main(void){return 0;}" 24 "int" 1 ∷
-    keeps "static int a[1]={1};int main(void){return 0;}" ∷ []
+    keeps "static int a[1]={1};int main(void){return 0;}" ∷
+    breaks "int f(void)=1;int main(void){return 0;}" 24 "int" 0 ∷
+    keeps "extern int f=1;int main(void){return 0;}" ∷
+    breaks "struct s{int a;};static struct s x={1},y=x;int main(void){return 0;}" 24 "var x" 0 ∷
+    keeps "struct s{int a;};static struct s x={1},y={1};int main(void){return 0;}" ∷
+    breaks "int x={1,2};int main(void){return 0;}" 24 "braces" 0 ∷
+    keeps "static int x[]={1,2};int main(void){return 0;}" ∷ []
 
 rule_24_holds : Hold rule_24
 unfolding holds
@@ -188,7 +212,9 @@ rule_26 =
     breaks "int main(void){switch(1){default:;default:return 0;}return 1;}" 26 "default" 1 ∷
     keeps "int main(void){switch(1){default:switch(2){default:return 0;}}return 1;}" ∷
     breaks "int main(void){switch(1u){case -1:;case 4294967295u:;}}" 26 "case" 1 ∷
-    keeps "int main(void){switch(1u){case -1:;case 1:;}}" ∷ []
+    keeps "int main(void){switch(1u){case -1:;case 1:;}}" ∷
+    breaks "int main(void){switch(1){case 256:;case(char)256:;case 0:;}}" 26 "case" 2 ∷
+    keeps "int main(void){switch(1){case 256:;case(char)256:;case 1:;}}" ∷ []
 
 rule_26_holds : Hold rule_26
 unfolding holds

@@ -3,7 +3,7 @@ use Rattle.std.specs.Prelude.{ℕ, ◌+◌, ◌*◌, ◌-◌, ◌%◌, ◌^◌, 
 use Rattle.c_types.specs.declared.tree.COp.{COp}
 use Rattle.c_typing.specs.Operators.{c_operator}
 use Rattle.c_typing.specs.Types.{CType, integer, pointer, void, Layout, size_of}
-use Rattle.c_typing.specs.Judgements.{Constant, no_constant, undefined, number, null_pointer, zero_pointer, address_of, place_at}
+use Rattle.c_typing.specs.Judgements.{Constant, no_constant, undefined, number, null_pointer, zero_pointer, address_of, undefined_address, place_at}
 use Rattle.c_typing.specs.Conversions.{Class, additive, subtractive, and_then, or_else, is_null, points_to_void, converted_word}
 use Rattle.c_typing.specs.Rules.{is_constant}
 
@@ -48,10 +48,14 @@ chosen_constant c x y = no_constant
 -- an address constant and a constant of elements (6.6, 9)
 abbrev pub moved_up : ℕ → Constant → Constant → Constant
 moved_up size (address_of o a) (number w) = address_of o ((a + w * size) % 2 ^ 32)
+moved_up size (address_of o a) (undefined k) = undefined_address k
+moved_up size (undefined_address k) y = where_formed y (undefined_address k)
 moved_up size x y = no_constant
 
 abbrev pub moved_down : ℕ → Constant → Constant → Constant
 moved_down size (address_of o a) (number w) = address_of o ((a + (2 ^ 32 - w * size % 2 ^ 32)) % 2 ^ 32)
+moved_down size (address_of o a) (undefined k) = undefined_address k
+moved_down size (undefined_address k) y = where_formed y (undefined_address k)
 moved_down size x y = no_constant
 
 module _ (ls : List Layout) (op : COp) (n : ℕ) where
@@ -77,6 +81,7 @@ pointer_cast t (number w) = if w == 0 then (if points_to_void t then null_pointe
 pointer_cast t null_pointer = zero_pointer
 pointer_cast t zero_pointer = zero_pointer
 pointer_cast t (address_of o a) = address_of o a
+pointer_cast t (undefined_address k) = undefined_address k
 pointer_cast t c = no_constant
 
 abbrev pub integer_cast : CType → Constant → Constant
@@ -92,13 +97,17 @@ cast_constant t from c = no_constant
 -- a part of an object at a constant place
 abbrev pub part_at : ℕ → Constant → Constant
 part_at offset (place_at o a named) = place_at o ((a + offset) % 2 ^ 32) false
+part_at offset (undefined_address k) = undefined_address k
 part_at offset c = no_constant
 
 abbrev pub element_at : ℕ → Constant → Constant → Constant
 element_at size (place_at o a named) (number w) = place_at o ((a + w * size) % 2 ^ 32) false
+element_at size (place_at o a named) (undefined k) = undefined_address k
+element_at size (undefined_address k) y = where_formed y (undefined_address k)
 element_at size x y = no_constant
 
 -- `&` of it
 abbrev pub address_constant : Constant → Constant
 address_constant (place_at o a named) = address_of o a
+address_constant (undefined_address k) = undefined_address k
 address_constant c = no_constant

@@ -10,7 +10,7 @@ use Rattle.c_types.specs.declared.tree.COp.{COp}
 use Rattle.c_types.specs.declared.tree.COp.TheVariants as op
 use Rattle.c_types.specs.declared.tree.Expr.{Expr}
 use Rattle.c_types.specs.Forms.{const, address, local, set_local, load, store, binary, both, either, choose, seq, call, get_char, put_char, copy, expr_row, length_of}
-use Rattle.c_typing.specs.Types.{IntegerType, char, int, uint, long, ulong, CType, CTypes, void, integer, pointer, array, struct, function, promoted, common, is_integer, is_pointer, is_scalar, is_struct, integer_of, target_of, listed, Field, Layout, layout_of, has_size, size_of, align_of, is_text_array}
+use Rattle.c_typing.specs.Types.{IntegerType, char, int, uint, long, ulong, CType, CTypes, void, integer, pointer, array, struct, function, promoted, common, is_integer, is_array, is_pointer, is_scalar, is_struct, integer_of, target_of, listed, Field, Layout, layout_of, has_size, size_of, align_of, is_text_array}
 use Rattle.c_typing.specs.Places.{Node, node_at, kind_at, kid, has_kid, other_kids, is_string, is_paren, parent_of}
 use Rattle.c_typing.specs.Names.{Places, Name, Entity, typedef_name, function_name, static_object, automatic, parameter, enumerator, denoted, object_number, objects_of, function_number, function_around, named_locals, local_number, is_defined_object}
 use Rattle.c_typing.specs.Judgements.{Callee, reads_input, writes_output, calls, Form, value, in_local, in_memory, temporary, callee, Constant, no_constant, undefined, number, address_of, place_at, Typing, Fault, Meaning, a_type, enumerates, expresses, fills_array, Judgement, means, waits, verdict, given, all_of, judgement_at, typing_at, type_at, layouts, hidden_in, meaning_of}
@@ -178,7 +178,7 @@ subscript js node x y =
   where
     -- an array stays at its place; an index is a value
     over : Typing → Typing → Typing
-    over x a = if is_pointer a.type then x else a
+    over x a = if is_array x.type then x else a
 
 -- 6.5.2.2
 abbrev pub argument_faults : List (CType × Typing × ℕ) → List Fault

@@ -35,6 +35,8 @@ pub data Constant : Type 0 where
   zero_pointer : Constant
   -- the address of an object, plus an addend
   address_of : ℕ → ℕ → Constant
+  -- it is formed as such an address, but the part at this node has no defined value
+  undefined_address : ℕ → Constant
   -- an lvalue at that address; whether it is the name of an object, or a string literal
   place_at : ℕ → ℕ → Bool → Constant
 

@@ -118,6 +118,7 @@ abbrev pub is_constant_for : CType → Constant → Bool
 is_constant_for (pointer t) Constant.null_pointer = true
 is_constant_for (pointer t) Constant.zero_pointer = true
 is_constant_for (pointer t) (Constant.address_of o a) = true
+is_constant_for (pointer t) (Constant.undefined_address k) = true
 is_constant_for t c = is_constant c
 
 abbrev pub not_constant_for : CType → Constant → ℕ → List Fault
@@ -126,6 +127,7 @@ not_constant_for t c n = broken_if (not (is_constant_for t c)) 8 n
 -- rule 9, `constant out of range`: an evaluated part has no defined value, or an enumerator is no `int` (6.6, 4; 6.7.2.2, 2)
 abbrev pub out_of_range : Constant → List Fault
 out_of_range (undefined k) = rule 9 k ∷ []
+out_of_range (Constant.undefined_address k) = rule 9 k ∷ []
 out_of_range c = []
 
 abbrev pub is_no_int : CType → Constant → Bool
