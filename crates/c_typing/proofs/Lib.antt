@@ -3,4 +3,3 @@ pub mod RowsDeclared
 pub mod RowsExpressions
 pub mod RowsUses
 pub mod RowsTyped
-pub mod RowsUnits
