@@ -3,3 +3,5 @@ pub mod RowsDeclared
 pub mod RowsExpressions
 pub mod RowsUses
 pub mod RowsTyped
+pub mod RowsUnits
+pub mod RowsAccepted

@@ -160,17 +160,28 @@ same_faults [] [] = true
 same_faults (f ∷ fs) (g ∷ gs) = same_fault f g && same_faults fs gs
 same_faults fs gs = false
 
-abbrev pub holds_of : Tree → List Expected → Bool
-holds_of t expected = same_faults (faults t) (map (fault_of t) expected)
-
-unfoldable pub holds : Row → Bool
-unfolding tree_of variable_by variable prefix_step postfix_step subscript called call_by dot arrow address_operator dereference sign_operator not_operator unary
+-- the faults and the unit of a tree, where all that they compute with unfolds
+unfoldable pub faults_of : Tree → List Fault
+unfolding variable_by variable prefix_step postfix_step subscript called call_by dot arrow address_operator dereference sign_operator not_operator unary
     measured_type cast binary_by binary_operator conditional comma assignment compound_by assign typedef_type spec_word specs struct_body struct_specifier
     enum_specifier enumerator_after enumerator_value enumerator_node whole_type declarator pointer_declarator absent_length_step length_step
     array_declarator function_declarator member parameter_node type_name string braces_for braces initialized_object init_by init_declarator declaration
     block_node expression_statement if_statement while_statement do_statement for_statement break_statement continue_statement return_by return_statement
     case_label default_label switch_statement function_node unit_node judged_by judged_from faults unit_of
-holds row = let t = tree_of (codes row.0) in holds_of t row.1
+faults_of t = faults t
+
+unfoldable pub whole_of : Tree → Whole
+unfolding variable_by variable prefix_step postfix_step subscript called call_by dot arrow address_operator dereference sign_operator not_operator unary
+    measured_type cast binary_by binary_operator conditional comma assignment compound_by assign typedef_type spec_word specs struct_body struct_specifier
+    enum_specifier enumerator_after enumerator_value enumerator_node whole_type declarator pointer_declarator absent_length_step length_step
+    array_declarator function_declarator member parameter_node type_name string braces_for braces initialized_object init_by init_declarator declaration
+    block_node expression_statement if_statement while_statement do_statement for_statement break_statement continue_statement return_by return_statement
+    case_label default_label switch_statement function_node unit_node judged_by judged_from faults unit_of
+whole_of t = unit_of t
+
+unfoldable pub holds : Row → Bool
+unfolding tree_of faults_of
+holds row = let t = tree_of (codes row.0) in same_faults (faults_of t) (map (fault_of t) row.1)
 
 -- all rows hold
 abbrev pub Hold : List Row → Type 0
@@ -179,13 +190,8 @@ Hold rows = list_all holds rows ≡ true
 -- ---- rows on typed forms
 
 unfoldable pub unit_in : String → Whole
-unfolding tree_of variable_by variable prefix_step postfix_step subscript called call_by dot arrow address_operator dereference sign_operator not_operator unary
-    measured_type cast binary_by binary_operator conditional comma assignment compound_by assign typedef_type spec_word specs struct_body struct_specifier
-    enum_specifier enumerator_after enumerator_value enumerator_node whole_type declarator pointer_declarator absent_length_step length_step
-    array_declarator function_declarator member parameter_node type_name string braces_for braces initialized_object init_by init_declarator declaration
-    block_node expression_statement if_statement while_statement do_statement for_statement break_statement continue_statement return_by return_statement
-    case_label default_label switch_statement function_node unit_node judged_by judged_from faults unit_of
-unit_in text = unit_of (tree_of (codes text))
+unfolding tree_of whole_of
+unit_in text = whole_of (tree_of (codes text))
 
 -- the code of the value of the first expression that is a statement
 abbrev is_expression_statement : SynKind → Bool
