@@ -10,7 +10,9 @@ rule_1 =
     breaks "long long x;int main(void){return 0;}" 1 "specs" 0 ∷
     keeps "long unsigned int x;int main(void){return 0;}" ∷
     breaks "typedef int t;unsigned struct s{int a;} x;int main(void){return 0;}" 1 "specs" 2 ∷
-    keeps "typedef int t;const t x;int main(void){return 0;}" ∷ []
+    keeps "typedef int t;const t x;int main(void){return 0;}" ∷
+    breaks "int f(void){return sizeof(const);}int main(void){return 0;}" 1 "specs" 1 ∷
+    keeps "int f(void){return sizeof(const unsigned);}int main(void){return 0;}" ∷ []
 
 rule_1_holds : Hold rule_1
 unfolding holds
@@ -34,7 +36,9 @@ rule_2 =
     breaks "int main(void){for(static int i=0;;);return 0;}" 2 "specs" 1 ∷
     keeps "int main(void){for(register int i=0;;);return 0;}" ∷
     breaks "typedef int f(void){return 0;}int main(void){return 0;}" 2 "specs" 0 ∷
-    keeps "static int f(void){return 0;}int main(void){return 0;}" ∷ []
+    keeps "static int f(void){return 0;}int main(void){return 0;}" ∷
+    breaks "int x=sizeof(const static int);int main(void){return 0;}" 2 "specs" 1 ∷
+    keeps "int x=sizeof(const int);int main(void){return 0;}" ∷ []
 
 rule_2_holds : Hold rule_2
 unfolding holds
@@ -70,7 +74,17 @@ rule_3 =
     breaks "struct s{int a,a;};int main(void){return 0;}" 3 "member" 0 ∷
     keeps "struct s{int a,b;};int main(void){return 0;}" ∷
     breaks "enum s{A};struct s{int a;};int main(void){return 0;}" 3 "struct s" 0 ∷
-    keeps "enum s{A};void f(void){struct s{int a;};}int main(void){return 0;}" ∷ []
+    keeps "enum s{A};void f(void){struct s{int a;};}int main(void){return 0;}" ∷
+    breaks "int x[2];extern int x[3];int main(void){return 0;}" 3 "name x" 1 ∷
+    keeps "int x[2];extern int x[2];int main(void){return 0;}" ∷
+    breaks "void f(void){static int a;static int a;}int main(void){return 0;}" 3 "name a" 1 ∷
+    keeps "void f(void){static int a;{static int a;}}int main(void){return 0;}" ∷
+    breaks "int f(int a,int a);int main(void){return 0;}" 3 "name a" 1 ∷
+    keeps "int f(int a,int b);int main(void){return 0;}" ∷
+    breaks "void f(void){enum{A};enum{A};}int main(void){return 0;}" 3 "enumer A" 1 ∷
+    keeps "void f(void){enum{A};{enum{A};}}int main(void){return 0;}" ∷
+    breaks "int f(void);int f;int main(void){return 0;}" 3 "name f" 1 ∷
+    keeps "int f(void),g;int main(void){return 0;}" ∷ []
 
 rule_3_holds : Hold rule_3
 unfolding holds
@@ -86,7 +100,15 @@ rule_4 =
     breaks "enum e x;int main(void){return 0;}" 4 "enum e" 0 ∷
     keeps "enum e{A};enum e x;int main(void){return 0;}" ∷
     breaks "enum{A=A};int main(void){return 0;}" 4 "var A" 0 ∷
-    keeps "enum{A,B=A};int main(void){return 0;}" ∷ []
+    keeps "enum{A,B=A};int main(void){return 0;}" ∷
+    breaks "int(*f(int t))(int u){return u,(void*)0;}int main(void){return 0;}" 4 "var u" 0 ∷
+    keeps "int(*f(int t))(int u){return t,(void*)0;}int main(void){return 0;}" ∷
+    ("int main(void){return y+z;}", at 4 "var y" 0 ∷ at 4 "var z" 0 ∷ []) ∷
+    keeps "int y,z;int main(void){return y+z;}" ∷
+    breaks "int f(void){for(int i=0;i;);return i;}int main(void){return 0;}" 4 "var i" 1 ∷
+    keeps "int f(void){int i=1;for(int i=0;i;);return i;}int main(void){return 0;}" ∷
+    breaks "int f(void){int a=b,b=1;return a;}int main(void){return 0;}" 4 "var b" 0 ∷
+    keeps "int f(void){int b=1,a=b;return a+sizeof a;}int main(void){return 0;}" ∷ []
 
 rule_4_holds : Hold rule_4
 unfolding holds
@@ -120,7 +142,15 @@ rule_5 =
     breaks "int f(void a[]);int main(void){return 0;}" 5 "array" 0 ∷
     keeps "int f(int[]);int main(void){return 0;}" ∷
     breaks "void f(void){}int main(void){return sizeof f();}" 5 "call" 0 ∷
-    keeps "int f(void){return 0;}int main(void){return sizeof f();}" ∷ []
+    keeps "int f(void){return 0;}int main(void){return sizeof f();}" ∷
+    breaks "extern struct s x;int main(void){return 0;}" 5 "name x" 0 ∷
+    keeps "extern struct s*x;int main(void){return 0;}" ∷
+    breaks "static struct s b[2];int main(void){return 0;}" 5 "array" 0 ∷
+    keeps "struct s{int a;};static struct s b[2];int main(void){return 0;}" ∷
+    breaks "typedef int f(void);int x=sizeof(f);int main(void){return 0;}" 5 "typename" 0 ∷
+    keeps "typedef int f(void);int x=sizeof(f*);int main(void){return 0;}" ∷
+    breaks "typedef int f(void);static f a[2];int main(void){return 0;}" 5 "array" 0 ∷
+    keeps "typedef int f(void);static f*a[2];int main(void){return 0;}" ∷ []
 
 rule_5_holds : Hold rule_5
 unfolding holds
@@ -134,7 +164,13 @@ rule_6 =
     breaks "int x;int main(void){return x.a;}" 6 "dot a" 0 ∷
     keeps "struct s{int b,a;}x;int main(void){return x.a;}" ∷
     breaks "struct s{int a;}*x;int main(void){return x->b;}" 6 "arrow b" 0 ∷
-    keeps "struct s{int a;}*x;int main(void){return x->a;}" ∷ []
+    keeps "struct s{int a;}*x;int main(void){return x->a;}" ∷
+    breaks "struct t{int y;};int f(void){struct t*p=0;struct t{int x;};return p->x;}int main(void){return 0;}" 6 "arrow x" 0 ∷
+    keeps "struct t{int y;};int f(void){struct t;struct t*p=0;struct t{int x;};return p->x;}int main(void){return 0;}" ∷
+    breaks "struct t{int x;};int f(struct t*p){struct t{char c;}*q=0;return p->x+q->x;}int main(void){return 0;}" 6 "arrow x" 1 ∷
+    keeps "struct t{int x;};int f(struct t*p){struct t{char c;}*q=0;return p->x+q->c;}int main(void){return 0;}" ∷
+    ("struct t*p;int main(void){return p->x;}", at 6 "arrow x" 0 ∷ at 5 "arrow x" 0 ∷ []) ∷
+    keeps "struct t*p;struct t{int x;};int main(void){return p->x;}" ∷ []
 
 rule_6_holds : Hold rule_6
 unfolding holds

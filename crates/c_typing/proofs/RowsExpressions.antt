@@ -32,7 +32,11 @@ rule_8 =
     breaks "static int a[(1,2)];int main(void){return 0;}" 8 "paren" 0 ∷
     keeps "static int a[(2)];int main(void){return 0;}" ∷
     breaks "static int x=(int)\"a\";int main(void){return 0;}" 8 "cast" 0 ∷
-    keeps "static int x=(int)'a';int main(void){return 0;}" ∷ []
+    keeps "static int x=(int)'a';int main(void){return 0;}" ∷
+    breaks "int main(void){static int a=1;static int b=a;return b;}" 8 "var a" 0 ∷
+    keeps "int main(void){static int a=1;static int*b=&a;return *b;}" ∷
+    breaks "int f(void){return 0;}int x=f();int main(void){return 0;}" 8 "call" 0 ∷
+    keeps "int f(void){return 0;}int x=sizeof f();int main(void){return 0;}" ∷ []
 
 rule_8_holds : Hold rule_8
 unfolding holds
@@ -54,7 +58,13 @@ rule_9 =
     breaks "static int g[2];static int*q=&g[1/0];int main(void){return 0;}" 9 "binary /" 0 ∷
     keeps "static int g[2];static int*q=g+1/1;int main(void){return 0;}" ∷
     breaks "int f(int n){switch(n){case 1<<-1:;}return 0;}int main(void){return 0;}" 9 "binary <<" 0 ∷
-    keeps "int f(int n){switch(n){case 1?1:1<<-1:;}return 0;}int main(void){return 0;}" ∷ []
+    keeps "int f(int n){switch(n){case 1?1:1<<-1:;}return 0;}int main(void){return 0;}" ∷
+    breaks "int x=-2147483647-2;int main(void){return 0;}" 9 "binary -" 0 ∷
+    keeps "int x=-2147483647-1;int main(void){return 0;}" ∷
+    breaks "int x=(-2147483647-1)/-1;int main(void){return 0;}" 9 "binary /" 0 ∷
+    keeps "int x=(-2147483647-1)/1;int main(void){return 0;}" ∷
+    breaks "int x=-1<<1;int main(void){return 0;}" 9 "binary <<" 0 ∷
+    keeps "int x=-1>>1;int main(void){return 0;}" ∷ []
 
 rule_9_holds : Hold rule_9
 unfolding holds
@@ -66,7 +76,9 @@ rule_10 =
     breaks "int main(void){int a[2];return 0;}" 10 "array" 0 ∷
     keeps "int main(void){static int a[2];return 0;}" ∷
     breaks "struct s{int a;};int main(void){struct s x;return 0;}" 10 "name x" 0 ∷
-    keeps "struct s{int a;};int main(void){struct s*x;return 0;}" ∷ []
+    keeps "struct s{int a;};int main(void){struct s*x;return 0;}" ∷
+    breaks "int main(void){char s[]=\"a\";return 0;}" 10 "array" 0 ∷
+    keeps "int main(void){char*s=\"a\";return 0;}" ∷ []
 
 rule_10_holds : Hold rule_10
 unfolding holds

@@ -229,3 +229,26 @@ sizes =
 sizes_hold : Hold sizes
 unfolding holds
 sizes_hold = refl
+
+-- ---- numbers: literals stand behind all objects, also those that are declared later, and behind no function
+
+later_unit : unit_in "typedef int F(void);char*f(void){return\"x\";}int g;F h;int main(void){return g;}"
+    ≡ unit (object "g" 4 4 [] ∷ object "" 2 1 (cell 0 1 120 ∷ []) ∷ [])
+    (function "f" 0 0 true (return_with (Some (address 1 0)) ∷ []) ∷ function "main" 0 0 true (return_with (Some (word_at (address 0 0))) ∷ []) ∷ [])
+unfolding unit_in
+later_unit = refl
+
+-- a function is called before it is defined
+forward_unit : unit_in "int g(int a,int b);int main(void){return g(1,2);}int g(int x,int y){return y;}"
+    ≡ unit [] (function "main" 0 0 true (return_with (Some (calls 1 (const 1 ∷ const 2 ∷ []))) ∷ []) ∷ function "g" 2 2 true (return_with (Some (local 1)) ∷ []) ∷ [])
+unfolding unit_in
+forward_unit = refl
+
+-- arrays of arrays, and a local in braces
+table_unit : unit_in "static int a[2][3]={{1},{2,3}};int main(void){int x={1};return a[x][2];}"
+    ≡ unit (object "a" 24 4 (cell 0 4 1 ∷ cell 12 4 2 ∷ cell 16 4 3 ∷ []) ∷ [])
+    (function "main" 0 1 true (
+    block_of (drop_expr (set_local 0 (const 1)) ∷ []) ∷
+    return_with (Some (word_at (sum (sum (address 0 0) (binary op.MulU (local 0) (const 12))) (binary op.MulU (const 2) (const 4))))) ∷ []) ∷ [])
+unfolding unit_in
+table_unit = refl

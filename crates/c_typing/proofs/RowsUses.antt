@@ -22,7 +22,13 @@ rule_14 =
     breaks "int*p;int main(void){int*q={0},*r={p},i={p};return 0;}" 14 "var p" 1 ∷
     keeps "int*p;int main(void){int*q={0},*r={p},i={0};return 0;}" ∷
     breaks "int f(int*p){return p;}int main(void){return 0;}" 14 "var p" 0 ∷
-    keeps "_Bool f(int*p){return p;}int main(void){return 0;}" ∷ []
+    keeps "_Bool f(int*p){return p;}int main(void){return 0;}" ∷
+    breaks "int*f(void){return 0;}int main(void){char*q=f();return 0;}" 14 "call" 0 ∷
+    keeps "int*f(void){return 0;}int main(void){void*q=f();return 0;}" ∷
+    breaks "int f(int(*g)(void));int(*h)(int);int main(void){return f(h);}int f(int(*g)(void)){return 0;}" 14 "var h" 0 ∷
+    keeps "int f(int(*g)(void));int(*h)(void);int main(void){return f(h);}int f(int(*g)(void)){return 0;}" ∷
+    breaks "static int a[2][3];int main(void){int*p=a;return 0;}" 14 "var a" 0 ∷
+    keeps "static int a[2][3];int main(void){int(*p)[3]=a;return 0;}" ∷ []
 
 rule_14_holds : Hold rule_14
 unfolding holds
@@ -68,7 +74,9 @@ rule_17 =
     breaks "extern int getchars(void);int main(void){return getchars();}" 17 "var getchars" 0 ∷
     keeps "extern int getchar(void);int main(void){return getchar();}" ∷
     breaks "typedef int f(void);f g;int main(void){return g();}" 17 "var g" 0 ∷
-    keeps "typedef int f(void);f g;int main(void){return g();}int g(void){return 0;}" ∷ []
+    keeps "typedef int f(void);f g;int main(void){return g();}int g(void){return 0;}" ∷
+    breaks "int g(void);int x=sizeof g();int main(void){return 0;}" 17 "var g" 0 ∷
+    keeps "int g(void);int x=sizeof g();int g(void){return 0;}int main(void){return 0;}" ∷ []
 
 rule_17_holds : Hold rule_17
 unfolding holds
@@ -94,7 +102,9 @@ rule_19 =
     breaks "int main(void){break;}" 19 "break" 0 ∷
     keeps "int main(void){while(1)break;}" ∷
     breaks "int main(void){switch(1){case 1:continue;}}" 19 "continue" 0 ∷
-    keeps "int main(void){do switch(1){case 1:continue;}while(0);}" ∷ []
+    keeps "int main(void){do switch(1){case 1:continue;}while(0);}" ∷
+    breaks "int main(void){while(0);continue;}" 19 "continue" 0 ∷
+    keeps "int main(void){for(;;){if(1)continue;}}" ∷ []
 
 rule_19_holds : Hold rule_19
 unfolding holds
@@ -184,7 +194,13 @@ rule_24 =
     breaks "struct s{int a;};static struct s x={1},y=x;int main(void){return 0;}" 24 "var x" 0 ∷
     keeps "struct s{int a;};static struct s x={1},y={1};int main(void){return 0;}" ∷
     breaks "int x={1,2};int main(void){return 0;}" 24 "braces" 0 ∷
-    keeps "static int x[]={1,2};int main(void){return 0;}" ∷ []
+    keeps "static int x[]={1,2};int main(void){return 0;}" ∷
+    breaks "static char a[1][2]={\"abc\"};int main(void){return 0;}" 24 "string" 0 ∷
+    keeps "static char a[1][2]={\"ab\"};int main(void){return 0;}" ∷
+    breaks "static char a[3]=(\"ab\");int main(void){return 0;}" 24 "paren" 0 ∷
+    keeps "static char a[3]={\"ab\"};int main(void){return 0;}" ∷
+    breaks "struct s{int a;char b[2];};static struct s x={1,2};int main(void){return 0;}" 24 "int" 2 ∷
+    keeps "struct s{int a;char b[2];};static struct s x={1,{2}};int main(void){return 0;}" ∷ []
 
 rule_24_holds : Hold rule_24
 unfolding holds
@@ -198,7 +214,9 @@ rule_25 =
     breaks "int f(void){return 0;}int main(void){return sizeof f;}" 25 "var f" 0 ∷
     keeps "int f(void){return 0;}int main(void){return sizeof f();}" ∷
     breaks "int f(void){return 0;}int main(void){return &f==0;}" 25 "var f" 0 ∷
-    keeps "int f(void){return 0;}int main(void){return((f))();}" ∷ []
+    keeps "int f(void){return 0;}int main(void){return((f))();}" ∷
+    breaks "int f(void){return 0;}int(*p)(void)=f;int main(void){return 0;}" 25 "var f" 0 ∷
+    keeps "int f(void){return 0;}int(*p)(void)=0;int main(void){return 0;}" ∷ []
 
 rule_25_holds : Hold rule_25
 unfolding holds
