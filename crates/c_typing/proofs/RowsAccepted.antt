@@ -4,7 +4,7 @@ use Rattle.c_lexer.specs.declared.token.IntType.TheVariants as type
 use Rattle.c_lexer.specs.declared.token.Token.{Token}
 use Rattle.c_lexer.specs.Tokens.{HasTokens}
 use Rattle.c_syntax.specs.declared.kind.SynKind.TheVariants as kind
-use Rattle.c_syntax.specs.Trees.{Tree, none, one, two, three, text_node, plain_node, int_node, height}
+use Rattle.c_syntax.specs.Trees.{Tree, none, one, three, text_node, plain_node, int_node, height}
 use Rattle.c_grammar.specs.Derivation.{IsTreeOf}
 use Rattle.c_types.specs.declared.tree.Func.{Func}
 use Rattle.c_types.specs.declared.tree.Unit.{Unit as Whole}
@@ -12,7 +12,7 @@ use Rattle.c_types.specs.Forms.{const, return_with}
 use Rattle.c_lexer.proofs.OneList.{one_list}
 use Rattle.c_grammar.proofs.OneTree.{one_tree_of}
 use Rattle.c_typing.specs.Statements.{block_of}
-use Rattle.c_typing.specs.Typing.{IsTyped, IsAccepted, faults, unit_of}
+use Rattle.c_typing.specs.Typing.{IsAccepted, faults, unit_of}
 use Rattle.c_typing.proofs.Texts.{faults_of, whole_of}
 
 -- `int main(void){return ((..0..));}` with n pairs of parentheses

@@ -1,6 +1,6 @@
 -- Units that break a rule on declarations, and behind each its nearest neighbour that breaks none. The nodes are those that the rules name.
 use Rattle.std.proofs.Common.{List, [], ◌∷◌, refl}
-use Rattle.c_typing.proofs.Texts.{Row, at, size_at, breaks, keeps, Hold, holds}
+use Rattle.c_typing.proofs.Texts.{Row, at, breaks, keeps, Hold, holds}
 
 -- rule 1, `bad type words`
 abbrev pub rule_1 : List Row

@@ -1,6 +1,6 @@
 -- Units that break a rule on constants or expressions, and behind each its nearest neighbour that breaks none.
 use Rattle.std.proofs.Common.{List, [], ◌∷◌, refl}
-use Rattle.c_typing.proofs.Texts.{Row, at, size_at, breaks, keeps, Hold, holds}
+use Rattle.c_typing.proofs.Texts.{Row, breaks, keeps, Hold, holds}
 
 -- rule 8, `not constant`
 abbrev pub rule_8 : List Row

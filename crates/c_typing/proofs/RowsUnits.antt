@@ -1,6 +1,6 @@
 -- Whole units with their typed units, worked by hand.
 use Prim.Native.String.{String}
-use Rattle.std.proofs.Common.{◌≡◌, ℕ, Bool, true, false, List, [], ◌∷◌, refl, Option, Some, None, codes}
+use Rattle.std.proofs.Common.{◌≡◌, ℕ, Bool, true, false, List, [], ◌∷◌, refl, Some, None, codes}
 use Rattle.cp_base.specs.declared.op.Kind.TheVariants as access
 use Rattle.cp_base.specs.declared.op.To.TheVariants as to
 use Rattle.c_types.specs.declared.tree.COp.TheVariants as op
@@ -10,12 +10,11 @@ use Rattle.c_types.specs.declared.tree.Func.{Func}
 use Rattle.c_types.specs.declared.tree.Group.{Group}
 use Rattle.c_types.specs.declared.tree.Object.{Object}
 use Rattle.c_types.specs.declared.tree.Cell.{Cell}
-use Rattle.c_types.specs.declared.tree.CellValue.{CellValue}
 use Rattle.c_types.specs.declared.tree.CellValue.TheVariants.{Number, Address}
 use Rattle.c_types.specs.declared.tree.Unit.{Unit as Whole}
 use Rattle.c_types.specs.Forms.{const, address, local, set_local, load, store, binary, convert, choose, seq, call, get_char, put_char, copy, drop_expr, unset, return_with, if_else, loop, do_loop, break, continue, switch, expr_row, length_of, group_row}
 use Rattle.c_typing.specs.Statements.{block_of}
-use Rattle.c_typing.proofs.Texts.{unit_in, Row, at, size_at, breaks, keeps, Hold, holds}
+use Rattle.c_typing.proofs.Texts.{unit_in, Row, size_at, keeps, Hold, holds}
 
 -- ---- how units are written
 

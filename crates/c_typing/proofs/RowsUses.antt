@@ -1,6 +1,6 @@
 -- Units that break a rule on conversions, calls, functions, statements or initializers, and behind each its nearest neighbour that breaks none.
 use Rattle.std.proofs.Common.{List, [], ◌∷◌, refl}
-use Rattle.c_typing.proofs.Texts.{Row, at, size_at, breaks, keeps, Hold, holds}
+use Rattle.c_typing.proofs.Texts.{Row, at, breaks, keeps, Hold, holds}
 
 -- rule 14, `bad conversion`
 abbrev pub rule_14 : List Row

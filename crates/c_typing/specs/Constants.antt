@@ -1,10 +1,10 @@
 -- Constant expressions. C99 6.6; which are formed is this profile's list.
-use Rattle.std.specs.Prelude.{ℕ, ◌+◌, ◌*◌, ◌-◌, ◌%◌, ◌^◌, List, Bool, true, false, ◌==◌, ◌&&◌, if◌then◌else◌, Option, Some, None}
+use Rattle.std.specs.Prelude.{ℕ, ◌+◌, ◌*◌, ◌-◌, ◌%◌, ◌^◌, List, false, ◌==◌, if◌then◌else◌, Option, Some, None}
 use Rattle.c_types.specs.declared.tree.COp.{COp}
 use Rattle.c_typing.specs.Operators.{c_operator}
-use Rattle.c_typing.specs.Types.{CType, integer, pointer, void, Layout, size_of}
+use Rattle.c_typing.specs.Types.{CType, integer, pointer, Layout, size_of}
 use Rattle.c_typing.specs.Judgements.{Constant, no_constant, undefined, number, null_pointer, zero_pointer, address_of, undefined_address, place_at}
-use Rattle.c_typing.specs.Conversions.{Class, additive, subtractive, and_then, or_else, is_null, points_to_void, converted_word}
+use Rattle.c_typing.specs.Conversions.{Class, additive, subtractive, and_then, or_else, points_to_void, converted_word}
 use Rattle.c_typing.specs.Rules.{is_constant}
 
 -- the value at this node, where it is defined

@@ -1,17 +1,16 @@
 -- Conversions, and the operators with their operands. C99 6.3, 6.5, 6.5.16.1; the lists are this profile's.
-use Rattle.std.specs.Prelude.{ℕ, ◌*◌, ◌+◌, ◌-◌, ◌%◌, ◌^◌, Bool, true, false, List, [], ◌∷◌, ◌&&◌, ◌||◌, ◌==◌, not, if◌then◌else◌, Option, Some, None, find, option_map, codes}
+use Rattle.std.specs.Prelude.{ℕ, Bool, true, false, List, [], ◌∷◌, ◌&&◌, ◌||◌, ◌==◌, if◌then◌else◌, Option, Some, None, find, codes}
 use Rattle.std.specs.Str.{bytes_eq}
 use Rattle.cp_base.specs.declared.op.Kind.{Kind}
 use Rattle.cp_base.specs.declared.op.Kind.TheVariants as access
 use Rattle.cp_base.specs.declared.op.To.{To}
-use Rattle.cp_base.specs.declared.op.To.TheVariants as to
 use Rattle.cp_base.specs.Operations.{converted}
 use Rattle.c_types.specs.declared.tree.COp.{COp}
 use Rattle.c_types.specs.declared.tree.COp.TheVariants as op
 use Rattle.c_types.specs.declared.tree.Expr.{Expr}
 use Rattle.c_types.specs.Forms.{const, load, binary, convert}
-use Rattle.c_typing.specs.Types.{IntegerType, int, CType, void, integer, pointer, array, unsized, struct, function, same, traits_of, promoted, common, is_integer, is_pointer, is_scalar, is_void, integer_of, Layout, has_size, size_of}
-use Rattle.c_typing.specs.Judgements.{Form, value, in_local, in_memory, temporary, callee, Constant, no_constant, undefined, number, null_pointer, zero_pointer, address_of, place_at, Typing}
+use Rattle.c_typing.specs.Types.{IntegerType, int, CType, void, integer, pointer, array, unsized, struct, same, traits_of, promoted, common, is_integer, is_pointer, is_scalar, is_void, integer_of, Layout, has_size, size_of}
+use Rattle.c_typing.specs.Judgements.{Form, value, in_local, in_memory, temporary, Constant, no_constant, number, null_pointer, address_of, place_at, Typing}
 
 -- ---- values (6.3.2.1): an lvalue is read; an array is a pointer to its first element; a struct stays at its place
 

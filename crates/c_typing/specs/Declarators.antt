@@ -1,19 +1,18 @@
 -- Types of specs and declarators: built from the specs inwards, while the nodes of a declarator mean how it makes a type, from the
 -- name outwards. C99 6.7.1 to 6.7.7.
-use Rattle.std.specs.Prelude.{ℕ, zero, slice_get, ◌+◌, ◌-◌, ◌*◌, ◌%◌, ◌^◌, Bool, true, false, List, [], ◌∷◌, ◌++◌, ◌&&◌, ◌||◌, ◌==◌, not, nat_lt, if◌then◌else◌, Option, Some, None, length, filter, filter_map, map, find, codes, unwrap_or, option_map, count_by, flat_map}
+use Rattle.std.specs.Prelude.{ℕ, zero, slice_get, ◌+◌, ◌-◌, ◌*◌, ◌%◌, ◌^◌, Bool, true, false, List, [], ◌∷◌, ◌++◌, ◌&&◌, ◌||◌, ◌==◌, not, nat_lt, if◌then◌else◌, Option, Some, None, length, filter, map, find, codes, unwrap_or, option_map}
 use Rattle.std.specs.List.{list_any, list_all, last_or}
 use Rattle.std.specs.Option.{is_some}
 use Rattle.std.specs.Str.{bytes_eq}
 use Rattle.c_syntax.specs.declared.kind.SynKind.{SynKind}
 use Rattle.c_syntax.specs.declared.kind.SynKind.TheVariants as kind
 use Rattle.c_grammar.specs.Vocabulary.{is_type_word, is_storage_word}
-use Rattle.c_types.specs.declared.kind.Measure.{Measure}
 use Rattle.c_types.specs.InOrder.{offsets}
 use Rattle.c_types.specs.Sizes.{struct_measure}
-use Rattle.c_typing.specs.Types.{IntegerType, bool, char, schar, uchar, short, ushort, int, uint, long, ulong, CType, CTypes, void, integer, pointer, array, unsized, struct, function, types_of, Field, Layout, has_size, measure, no_measure, size_of, is_unsized, is_array, element_of}
-use Rattle.c_typing.specs.Places.{Node, node_at, kind_at, text_at, parent_of, kid, has_kid, other_kids, index_in, is_word, is_declarator, is_whole, is_next_to_name, whole_declarator, own_takes, specs_of, is_init, is_param, is_file_scope}
+use Rattle.c_typing.specs.Types.{bool, char, schar, uchar, short, ushort, int, uint, long, ulong, CType, void, integer, pointer, array, unsized, struct, function, types_of, Field, Layout, measure, no_measure, size_of, is_unsized}
+use Rattle.c_typing.specs.Places.{Node, node_at, kind_at, text_at, parent_of, kid, has_kid, other_kids, index_in, is_word, is_whole, is_next_to_name, whole_declarator, own_takes, specs_of, is_init, is_param}
 use Rattle.c_typing.specs.Names.{Places, Name, Entity, typedef_name, function_name, static_object, automatic, parameter, enumerator, is_typedef, denoted, name_of, Tag, tag_of, earlier}
-use Rattle.c_typing.specs.Judgements.{Constant, number, Typing, Step, to_pointer, of_array, of_unsized, of_parameter, of_function, PlacedStep, Fault, rule, Meaning, itself, a_type, a_struct, members, enumerates, steps, declares, Judgement, means, waits, verdict, given, all_of, judgement_at, typing_at, type_at, steps_at, layouts}
+use Rattle.c_typing.specs.Judgements.{Constant, number, Typing, Step, to_pointer, of_array, of_unsized, of_parameter, of_function, PlacedStep, Fault, itself, a_type, a_struct, members, enumerates, steps, declares, Judgement, means, waits, verdict, given, all_of, judgement_at, typing_at, type_at, steps_at, layouts}
 use Rattle.c_typing.specs.Expressions.{type_of_name, word_of_enumerator}
 use Rattle.c_typing.specs.Rules.{bad_type_words, SpecsPlace, in_unit, of_definition, in_block, in_for, of_parameter, of_member_or_type_name, bad_storage_class, declared_twice, stands_twice, unknown_name, incomplete_type, absent_length, bad_array_length, not_constant, out_of_range, no_int, broken_if, local_array_or_struct, not_a_function, many_parameters, bad_parameter, bad_result, bad_main, bad_library_name, size_fault}
 

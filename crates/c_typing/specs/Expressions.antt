@@ -1,5 +1,5 @@
 -- What expressions mean, one production after the other. C99 6.5.
-use Rattle.std.specs.Prelude.{ℕ, zero, suc, ◌+◌, ◌^◌, ◌-◌, Bool, true, false, List, [], ◌∷◌, ◌++◌, ◌&&◌, ◌||◌, ◌==◌, not, nat_le, nat_lt, if◌then◌else◌, Option, Some, None, length, filter, map, find, drop, sum, codes, slice_get, unwrap_or, option_map, zip}
+use Rattle.std.specs.Prelude.{ℕ, zero, suc, ◌+◌, ◌^◌, ◌-◌, Bool, true, false, List, [], ◌∷◌, ◌++◌, ◌&&◌, ◌||◌, ◌==◌, not, if◌then◌else◌, Option, Some, None, length, filter, map, find, drop, sum, codes, unwrap_or, zip}
 use Rattle.std.specs.Option.{is_some}
 use Rattle.std.specs.Str.{bytes_eq}
 use Rattle.c_lexer.specs.declared.token.IntType.{IntType}
@@ -10,12 +10,12 @@ use Rattle.c_types.specs.declared.tree.COp.{COp}
 use Rattle.c_types.specs.declared.tree.COp.TheVariants as op
 use Rattle.c_types.specs.declared.tree.Expr.{Expr}
 use Rattle.c_types.specs.Forms.{const, address, local, set_local, load, store, binary, both, either, choose, seq, call, get_char, put_char, copy, expr_row, length_of}
-use Rattle.c_typing.specs.Types.{IntegerType, char, int, uint, long, ulong, CType, CTypes, void, integer, pointer, array, struct, function, promoted, common, is_integer, is_array, is_pointer, is_scalar, is_struct, integer_of, target_of, listed, Field, Layout, layout_of, has_size, size_of, align_of, is_text_array}
-use Rattle.c_typing.specs.Places.{Node, node_at, kind_at, kid, has_kid, other_kids, is_string, is_paren, parent_of}
-use Rattle.c_typing.specs.Names.{Places, Name, Entity, typedef_name, function_name, static_object, automatic, parameter, enumerator, denoted, object_number, objects_of, function_number, function_around, named_locals, local_number, is_defined_object}
-use Rattle.c_typing.specs.Judgements.{Callee, reads_input, writes_output, calls, Form, value, in_local, in_memory, temporary, callee, Constant, no_constant, undefined, number, address_of, place_at, Typing, Fault, Meaning, a_type, enumerates, expresses, fills_array, Judgement, means, waits, verdict, given, all_of, judgement_at, typing_at, type_at, layouts, hidden_in, meaning_of}
-use Rattle.c_typing.specs.Conversions.{valued, value_of, result, access_of, converted_to, converted_code, is_castable, are_comparable, Class, additive, subtractive, shift, and_then, or_else, Operator, operator_of, result_type, choice_type, operator_code, scaled, signs, plain_code}
-use Rattle.c_typing.specs.Constants.{operated, truth_of, chosen_constant, binary_constant, cast_constant, part_at, element_at, address_constant}
+use Rattle.c_typing.specs.Types.{IntegerType, char, int, uint, long, ulong, CType, void, integer, pointer, array, struct, function, promoted, common, is_integer, is_array, is_scalar, integer_of, target_of, listed, Field, Layout, layout_of, has_size, size_of, align_of}
+use Rattle.c_typing.specs.Places.{Node, kid, other_kids, is_string, parent_of}
+use Rattle.c_typing.specs.Names.{Places, Name, Entity, typedef_name, function_name, static_object, enumerator, object_number, objects_of, function_number, function_around, named_locals, local_number, is_defined_object}
+use Rattle.c_typing.specs.Judgements.{Callee, reads_input, writes_output, calls, Form, in_local, in_memory, temporary, callee, Constant, no_constant, number, place_at, Typing, Fault, Meaning, enumerates, expresses, fills_array, Judgement, means, waits, verdict, given, judgement_at, type_at, layouts, hidden_in, meaning_of}
+use Rattle.c_typing.specs.Conversions.{valued, value_of, result, access_of, converted_to, converted_code, is_castable, Class, additive, subtractive, shift, and_then, or_else, Operator, operator_of, result_type, choice_type, operator_code, scaled, signs}
+use Rattle.c_typing.specs.Constants.{operated, chosen_constant, binary_constant, cast_constant, part_at, element_at, address_constant}
 use Rattle.c_typing.specs.Rules.{unknown_name, incomplete_type, no_such_member, address_of_local, no_lvalue, not_assignable, bad_operand, bad_conversion, wrong_number, not_a_function, no_definition, function_as_value, big_struct, is_getchar, is_putchar}
 
 -- ---- hidden locals: in order of the nodes that take them, behind the named ones of the function

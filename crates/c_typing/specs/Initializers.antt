@@ -7,13 +7,12 @@ use Rattle.c_syntax.specs.declared.kind.SynKind.TheVariants as kind
 use Rattle.c_types.specs.declared.tree.Cell.{Cell}
 use Rattle.c_types.specs.declared.tree.CellValue.{CellValue}
 use Rattle.c_types.specs.declared.tree.CellValue.TheVariants.{Number, Address}
-use Rattle.c_types.specs.declared.tree.Expr.{Expr}
 use Rattle.c_types.specs.declared.tree.Stmt.{Stmt}
-use Rattle.c_types.specs.Forms.{const, set_local, drop_expr, unset}
-use Rattle.c_typing.specs.Types.{CType, integer, pointer, array, unsized, struct, Field, Layout, layout_of, size_of, is_text_array, is_array, is_struct, is_scalar, is_unsized, element_of, is_function}
-use Rattle.c_typing.specs.Places.{Node, node_at, kind_at, parent_of, kid, has_kid, index_in, is_braces, is_string, is_init, is_step, next_to_name, nowhere, around}
-use Rattle.c_typing.specs.Names.{Places, Name, Entity, typedef_name, function_name, static_object, automatic, is_static, name_of, local_number}
-use Rattle.c_typing.specs.Judgements.{Constant, number, address_of, null_pointer, zero_pointer, Typing, Fault, rule, Meaning, itself, fills_array, initial, initialized, Judgement, means, waits, verdict, given, all_of, judgement_at, typing_at, type_at, layouts}
+use Rattle.c_types.specs.Forms.{set_local, drop_expr, unset}
+use Rattle.c_typing.specs.Types.{CType, array, unsized, struct, Field, Layout, layout_of, size_of, is_text_array, is_array, is_struct, is_scalar, is_unsized}
+use Rattle.c_typing.specs.Places.{Node, node_at, kind_at, parent_of, kid, has_kid, index_in, is_braces, is_string, is_init, next_to_name, nowhere, around}
+use Rattle.c_typing.specs.Names.{Places, Name, Entity, static_object, automatic, is_static, name_of, local_number}
+use Rattle.c_typing.specs.Judgements.{Constant, number, address_of, Typing, Fault, fills_array, initial, initialized, Judgement, means, verdict, given, all_of, judgement_at, typing_at, type_at, layouts}
 use Rattle.c_typing.specs.Conversions.{value_of, converted_to, converted_word}
 use Rattle.c_typing.specs.Rules.{bad_conversion, not_constant_for, out_of_range, bad_initializer, declared_twice, size_fault, absent_length}
 use Rattle.c_typing.specs.Expressions.{literal, expression}

@@ -1,14 +1,14 @@
 -- The rules that a unit has to keep, one definition a rule: the faults of a node, where it breaks the rule. Over each stand its
 -- number, its text and its section of C99; docs/TYPING.md has examples.
-use Rattle.std.specs.Prelude.{ℕ, suc, ◌+◌, ◌^◌, Bool, true, false, List, [], ◌∷◌, ◌++◌, ◌&&◌, ◌||◌, ◌==◌, not, nat_lt, nat_le, if◌then◌else◌, Option, Some, None, length, filter, map, codes}
+use Rattle.std.specs.Prelude.{ℕ, ◌^◌, Bool, true, false, List, [], ◌∷◌, ◌&&◌, ◌||◌, ◌==◌, not, nat_lt, nat_le, if◌then◌else◌, Option, Some, None, length, codes}
 use Rattle.std.specs.List.{list_any, list_all, last_or}
 use Rattle.std.specs.Option.{is_some}
 use Rattle.std.specs.Str.{bytes_eq}
 use Rattle.c_types.specs.declared.kind.TheConstants.{MAX_SIZE}
-use Rattle.c_typing.specs.Types.{CType, CTypes, no_types, void, integer, pointer, array, unsized, struct, function, int, same, is_integer, is_scalar, is_void, is_struct, is_array, is_function, integer_of, element_of, traits_of, types_of, listed, Field, Layout, has_size, size_of}
-use Rattle.c_typing.specs.Places.{Node, node_at, is_file_scope}
-use Rattle.c_typing.specs.Names.{Places, Name, Entity, function_name, static_object, automatic, is_static, is_initialized, earlier}
-use Rattle.c_typing.specs.Judgements.{Fault, rule, too_big, Form, in_local, in_memory, callee, value, temporary, Constant, undefined, number, no_constant, Typing}
+use Rattle.c_typing.specs.Types.{CType, integer, pointer, unsized, function, int, same, is_struct, is_array, is_function, integer_of, element_of, traits_of, types_of, Field, Layout, has_size, size_of}
+use Rattle.c_typing.specs.Places.{is_file_scope}
+use Rattle.c_typing.specs.Names.{Places, Name, Entity, function_name, is_static, is_initialized, earlier}
+use Rattle.c_typing.specs.Judgements.{Fault, rule, too_big, Form, in_local, in_memory, Constant, undefined, number, Typing}
 use Rattle.c_typing.specs.Conversions.{is_assignable}
 
 -- rule r is broken at the node n where this holds

@@ -1,5 +1,5 @@
 -- What statements and declarations do. C99 6.7, 6.8.
-use Rattle.std.specs.Prelude.{ℕ, ◌+◌, Bool, true, false, List, [], ◌∷◌, ◌++◌, ◌&&◌, ◌||◌, ◌==◌, not, nat_lt, if◌then◌else◌, Option, Some, None, length, map, filter, filter_map, find, take, codes, unwrap_or, option_map}
+use Rattle.std.specs.Prelude.{ℕ, Bool, true, false, List, [], ◌∷◌, ◌++◌, ◌&&◌, ◌||◌, ◌==◌, nat_lt, if◌then◌else◌, Option, Some, None, map, codes, option_map}
 use Rattle.std.specs.List.{list_any}
 use Rattle.std.specs.Option.{is_some}
 use Rattle.c_syntax.specs.declared.kind.SynKind.{SynKind}
@@ -8,12 +8,12 @@ use Rattle.c_types.specs.declared.tree.Expr.{Expr}
 use Rattle.c_types.specs.declared.tree.Stmt.{Stmt}
 use Rattle.c_types.specs.declared.tree.Group.{Group}
 use Rattle.c_types.specs.Forms.{block, drop_expr, return_with, if_else, loop, do_loop, break, continue, switch, stmt_row, group_row, length_of}
-use Rattle.c_typing.specs.Types.{CType, CTypes, void, function, is_scalar, is_integer}
-use Rattle.c_typing.specs.Places.{Node, node_at, kind_at, parent_of, kid, has_kid, other_kids, around, holds, is_loop, is_switch, says}
+use Rattle.c_typing.specs.Types.{CType, void, function, is_scalar, is_integer}
+use Rattle.c_typing.specs.Places.{Node, node_at, kind_at, parent_of, kid, has_kid, other_kids, around, is_loop, is_switch, says}
 use Rattle.c_typing.specs.Names.{Places, function_around}
-use Rattle.c_typing.specs.Judgements.{Constant, number, Typing, Fault, Meaning, performs, labels, initialized, Judgement, means, waits, verdict, given, all_of, judgement_at, typing_at, type_at, code_at}
+use Rattle.c_typing.specs.Judgements.{Constant, number, Typing, Fault, Meaning, performs, labels, initialized, Judgement, means, verdict, given, all_of, judgement_at, typing_at, type_at, code_at}
 use Rattle.c_typing.specs.Conversions.{value_of, converted_to}
-use Rattle.c_typing.specs.Rules.{bad_operand, bad_conversion, bad_return, outside_a_loop, not_constant, out_of_range, case_twice, is_constant}
+use Rattle.c_typing.specs.Rules.{bad_operand, bad_conversion, bad_return, outside_a_loop, not_constant, out_of_range, case_twice}
 use Rattle.c_typing.specs.Declarators.{word_in}
 
 abbrev pub block_of : List Stmt → Stmt

@@ -1,5 +1,5 @@
 -- Typing: what each node of a tree means, the faults of all nodes, and the typed unit.
-use Rattle.std.specs.Prelude.{◌≡◌, ℕ, ◌+◌, ◌*◌, ◌≤◌, Bool, true, false, List, [], ◌∷◌, ◌++◌, ◌&&◌, ◌==◌, not, if◌then◌else◌, Option, Some, None, length, map, filter, filter_map, flat_map, find, drop, take, sum, zip, codes, unwrap_or, option_map, Contains}
+use Rattle.std.specs.Prelude.{◌≡◌, ℕ, ◌+◌, ◌≤◌, List, [], ◌∷◌, ◌++◌, not, Option, Some, None, length, map, filter, filter_map, flat_map, drop, sum, zip, codes, unwrap_or, Contains}
 use Rattle.std.specs.Option.{is_some}
 use Rattle.c_lexer.specs.declared.token.Token.{Token}
 use Rattle.c_lexer.specs.Tokens.{HasTokens}
@@ -11,15 +11,14 @@ use Rattle.c_types.specs.declared.kind.Measure.{Measure}
 use Rattle.c_types.specs.declared.tree.Func.{Func}
 use Rattle.c_types.specs.declared.tree.Object.{Object}
 use Rattle.c_types.specs.declared.tree.Cell.{Cell}
-use Rattle.c_types.specs.declared.tree.Stmt.{Stmt}
 use Rattle.c_types.specs.declared.tree.Unit.{Unit as Whole}
 use Rattle.c_types.specs.InOrder.{offsets}
 use Rattle.c_types.specs.Placing.{measures_of}
-use Rattle.c_typing.specs.Types.{CType, char, int, integer, void, is_void, size_of, align_of}
-use Rattle.c_typing.specs.Places.{Node, node_at, kind_at, kid, has_kid, other_kids, holds, is_string}
-use Rattle.c_typing.specs.Names.{Places, places, Name, denoted, earlier, is_again, objects_of, function_number, function_text, function_around, parameters_of, automatics_in}
-use Rattle.c_typing.specs.Judgements.{Typing, Fault, rule, too_big, Meaning, itself, a_type, steps, declares, initialized, performs, defines, Judgement, means, waits, verdict, given, all_of, judgement_at, typing_at, type_at, steps_at, code_at, layouts, hidden_in, faults_of}
-use Rattle.c_typing.specs.Conversions.{valued, value_of}
+use Rattle.c_typing.specs.Types.{int, void, is_void, size_of, align_of}
+use Rattle.c_typing.specs.Places.{Node, kid, other_kids}
+use Rattle.c_typing.specs.Names.{Places, places, Name, denoted, is_again, objects_of, function_number, function_text, parameters_of, automatics_in}
+use Rattle.c_typing.specs.Judgements.{Typing, Fault, rule, too_big, itself, initialized, defines, Judgement, means, verdict, given, all_of, judgement_at, typing_at, type_at, steps_at, code_at, layouts, hidden_in, faults_of}
+use Rattle.c_typing.specs.Conversions.{value_of}
 use Rattle.c_typing.specs.Rules.{no_main, size_fault}
 use Rattle.c_typing.specs.Expressions.{expression, number_of_type, integer_type, is_literal, type_of_name, variable, postfix_step, subscript, call_by, dot, arrow, unary, measured_type, cast, binary_operator, conditional, comma, assign}
 use Rattle.c_typing.specs.Declarators.{spec_word, specs, struct_specifier, enum_specifier, enumerator_node, declarator, pointer_declarator, array_declarator, function_declarator, member, parameter_node, type_name}
