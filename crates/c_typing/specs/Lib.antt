@@ -1,0 +1,12 @@
+pub mod Types
+pub mod Places
+pub mod Names
+pub mod Judgements
+pub mod Conversions
+pub mod Rules
+pub mod Constants
+pub mod Expressions
+pub mod Declarators
+pub mod Initializers
+pub mod Statements
+pub mod Typing
