@@ -1,0 +1,427 @@
+-- The shapes of nodes: which text a node of each kind has, and which kids, in a tree that is derived. C99 6.5, 6.7, 6.8 and 6.9,
+-- without what docs/DECISIONS.md leaves out.
+--
+-- Each tree has a syntactic category (C99 6.1), told from its root, and where the root is a `Pointer`, an `ArrayOf` or a `Paren`
+-- from its first kid. `text_fits` and `kids_fit` are the tables, with a line for each kind; a node has its shape where its text
+-- and the categories of its kids are in them.
+use Rattle.std.specs.Prelude.{◌≡◌, ℕ, suc, ◌+◌, ◌<◌, Bool, true, false, List, [], ◌∷◌, ◌||◌, ◌&&◌, not, if◌then◌else◌, nat_le, ◌==◌, codes}
+use Rattle.std.specs.List.{list_all}
+use Rattle.c_syntax.specs.declared.kind.SynKind.{SynKind}
+use Rattle.c_syntax.specs.declared.kind.SynKind.TheVariants as kind
+use Rattle.c_syntax.specs.declared.label.Label.{Label}
+use Rattle.c_syntax.specs.declared.syntax.SynId.{SynId}
+use Rattle.c_syntax.specs.declared.syntax.SynNode.{SynNode}
+use Rattle.c_syntax.specs.Trees.{Tree, Forest, none, tree, one}
+use Rattle.c_syntax.specs.Tables.{StandsFor}
+use Rattle.c_grammar.specs.Vocabulary.{is_among, is_identifier, is_type_word, is_storage_word}
+use Rattle.c_grammar.specs.Derivation.{Standing, at_first, behind_label, behind_statement, may_end, is_labelled, is_lone_void, ends_open}
+
+-- ---- categories
+
+pub data Category : Type 0 where
+  unit : Category
+  function : Category
+  declaration : Category
+  init_declarator : Category
+  braces : Category
+  specifiers : Category
+  -- among specifiers: a word that says no type, a typedef name, and all else
+  storage_word : Category
+  typedef_name : Category
+  type_specifier : Category
+  member : Category
+  enumerator : Category
+  -- with a name, without one, and the place of an absent name alone
+  declarator : Category
+  abstract_declarator : Category
+  no_name : Category
+  parameter : Category
+  type_name : Category
+  block : Category
+  -- `;` alone, or an absent part of `for`
+  empty : Category
+  -- any other statement
+  statement : Category
+  -- `case` or `default`
+  switch_label : Category
+  -- by its level, from the tightest, 0
+  expression : ℕ → Category
+  -- of no tree that is derived
+  other : Category
+
+-- the levels of expressions: of `a`, `a(b)`, `-a` and `(t)a`; of binary operators from 4 to 13; of `a ? b : c`, `a = b` and `a, b`
+abbrev pub primary_level : ℕ
+primary_level = 0
+
+abbrev pub postfix_level : ℕ
+postfix_level = 1
+
+abbrev pub unary_level : ℕ
+unary_level = 2
+
+abbrev pub cast_level : ℕ
+cast_level = 3
+
+abbrev pub conditional_level : ℕ
+conditional_level = 14
+
+abbrev pub assignment_level : ℕ
+assignment_level = 15
+
+abbrev pub comma_level : ℕ
+comma_level = 16
+
+-- the binary operators, the tightest first. C99 6.5.5 to 6.5.14
+abbrev pub binary_operators : List (List (List ℕ))
+binary_operators =
+    (codes "*" ∷ codes "/" ∷ codes "%" ∷ []) ∷
+    (codes "+" ∷ codes "-" ∷ []) ∷
+    (codes "<<" ∷ codes ">>" ∷ []) ∷
+    (codes "<" ∷ codes ">" ∷ codes "<=" ∷ codes ">=" ∷ []) ∷
+    (codes "==" ∷ codes "!=" ∷ []) ∷
+    (codes "&" ∷ []) ∷
+    (codes "^" ∷ []) ∷
+    (codes "|" ∷ []) ∷
+    (codes "&&" ∷ []) ∷
+    (codes "||" ∷ []) ∷ []
+
+-- the number of the first of the lists that has the text, counted from this one; 0 where none has
+abbrev pub place_among : ℕ → List (List (List ℕ)) → List ℕ → ℕ
+place_among n [] text = 0
+place_among n (operators ∷ more) text = if is_among operators text then n else place_among (suc n) more text
+
+-- from 1 to 10; 0 of all else
+unfoldable pub binary_level : List ℕ → ℕ
+binary_level text = place_among 1 binary_operators text
+
+-- C99 6.5.3.1 and 6.5.2.4
+abbrev pub is_increment : List ℕ → Bool
+is_increment text = is_among (codes "++" ∷ codes "--" ∷ []) text
+
+-- C99 6.5.3
+abbrev pub is_unary : List ℕ → Bool
+is_unary text = is_among (codes "++" ∷ codes "--" ∷ codes "&" ∷ codes "*" ∷ codes "+" ∷ codes "-" ∷ codes "~" ∷ codes "!" ∷ []) text
+
+-- C99 6.5.16
+abbrev pub is_assignment : List ℕ → Bool
+is_assignment text = is_among (
+    codes "=" ∷ codes "*=" ∷ codes "/=" ∷ codes "%=" ∷ codes "+=" ∷ codes "-=" ∷ codes "<<=" ∷ codes ">>=" ∷ codes "&=" ∷ codes "^=" ∷ codes "|=" ∷ []) text
+
+-- the category of a word among specifiers
+abbrev pub word_category : List ℕ → Category
+word_category text = if is_storage_word text then storage_word else if is_type_word text then type_specifier else typedef_name
+
+-- a `*` or `[]` before or behind what these kids begin with
+abbrev pub declarator_over : List Category → Category
+declarator_over (declarator ∷ rest) = declarator
+declarator_over (abstract_declarator ∷ rest) = abstract_declarator
+declarator_over (no_name ∷ rest) = abstract_declarator
+declarator_over others = other
+
+-- parentheses around these kids
+abbrev pub in_parentheses : List Category → Category
+in_parentheses (expression level ∷ rest) = expression primary_level
+in_parentheses others = declarator_over others
+
+-- the category of a tree whose root has this kind and this text, from those of its kids
+unfoldable pub category_by : SynKind → List ℕ → List Category → Category
+category_by kind.Unit text kids = unit
+category_by kind.Function text kids = function
+category_by kind.Declaration text kids = declaration
+category_by kind.InitDecl text kids = init_declarator
+category_by kind.Braces text kids = braces
+category_by kind.Specs text kids = specifiers
+category_by kind.Word text kids = word_category text
+category_by kind.StructSpec text kids = type_specifier
+category_by kind.Member text kids = member
+category_by kind.EnumSpec text kids = type_specifier
+category_by kind.Enumer text kids = enumerator
+category_by kind.Ident text kids = declarator
+category_by kind.Pointer text kids = declarator_over kids
+category_by kind.ArrayOf text kids = declarator_over kids
+category_by kind.Takes text kids = declarator
+category_by kind.Param text kids = parameter
+category_by kind.NoName text kids = no_name
+category_by kind.TypeName text kids = type_name
+category_by kind.Block text kids = block
+category_by kind.Empty text kids = empty
+category_by kind.ExprStmt text kids = statement
+category_by kind.If text kids = statement
+category_by kind.While text kids = statement
+category_by kind.Do text kids = statement
+category_by kind.For text kids = statement
+category_by kind.Break text kids = statement
+category_by kind.Continue text kids = statement
+category_by kind.Return text kids = statement
+category_by kind.Switch text kids = statement
+category_by kind.Case text kids = switch_label
+category_by kind.Default text kids = switch_label
+category_by kind.Paren text kids = in_parentheses kids
+category_by (kind.Int type) text kids = expression primary_level
+category_by kind.Char text kids = expression primary_level
+category_by kind.Str text kids = expression primary_level
+category_by kind.Var text kids = expression primary_level
+category_by kind.Index text kids = expression postfix_level
+category_by kind.Call text kids = expression postfix_level
+category_by kind.Dot text kids = expression postfix_level
+category_by kind.Arrow text kids = expression postfix_level
+category_by kind.Post text kids = expression postfix_level
+category_by kind.Unary text kids = expression unary_level
+category_by kind.SizeExpr text kids = expression unary_level
+category_by kind.SizeType text kids = expression unary_level
+category_by kind.Cast text kids = expression cast_level
+category_by kind.Binary text kids = expression (cast_level + binary_level text)
+category_by kind.Cond text kids = expression conditional_level
+category_by kind.Assign text kids = expression assignment_level
+category_by kind.Comma text kids = expression comma_level
+
+-- the categories of trees in a row
+abbrev pub categories : Forest → List Category
+categories none = []
+categories (tree label kids rest) = category_by label.kind label.text (categories kids) ∷ categories rest
+
+abbrev pub category_of : Tree → Category
+category_of t = category_by t.label.kind t.label.text (categories t.kids)
+
+-- ---- classes of categories
+
+-- an expression of this level at most
+unfoldable pub is_within : ℕ → Category → Bool
+is_within most (expression level) = nat_le level most
+is_within most others = false
+
+abbrev pub is_postfix_expression : Category → Bool
+is_postfix_expression c = is_within postfix_level c
+
+abbrev pub is_unary_expression : Category → Bool
+is_unary_expression c = is_within unary_level c
+
+abbrev pub is_cast_expression : Category → Bool
+is_cast_expression c = is_within cast_level c
+
+-- what an operand of this binary operator is at most, on its left
+abbrev pub is_left_operand : List ℕ → Category → Bool
+is_left_operand operator c = is_within (cast_level + binary_level operator) c
+
+-- and on its right: one level tighter
+abbrev pub is_right_operand : List ℕ → Category → Bool
+is_right_operand operator (expression level) = nat_le (suc level) (cast_level + binary_level operator)
+is_right_operand operator others = false
+
+-- what stands before `?`
+abbrev pub is_binary_expression : Category → Bool
+is_binary_expression c = is_within (cast_level + 10) c
+
+-- which a constant expression is (C99 6.6)
+abbrev pub is_conditional_expression : Category → Bool
+is_conditional_expression c = is_within conditional_level c
+
+abbrev pub is_assignment_expression : Category → Bool
+is_assignment_expression c = is_within assignment_level c
+
+abbrev pub is_expression : Category → Bool
+is_expression c = is_within comma_level c
+
+-- what a unary operator stands before: a unary expression behind `++` and `--`, else a cast expression
+abbrev pub is_operand : List ℕ → Category → Bool
+is_operand operator c = if is_increment operator then is_unary_expression c else is_cast_expression c
+
+abbrev pub is_optional_expression : Category → Bool
+is_optional_expression empty = true
+is_optional_expression c = is_expression c
+
+-- what `for` begins with
+abbrev pub is_first_clause : Category → Bool
+is_first_clause declaration = true
+is_first_clause c = is_optional_expression c
+
+abbrev pub is_external : Category → Bool
+is_external function = true
+is_external declaration = true
+is_external others = false
+
+abbrev pub is_init_declarator : Category → Bool
+is_init_declarator init_declarator = true
+is_init_declarator others = false
+
+abbrev pub is_initializer : Category → Bool
+is_initializer braces = true
+is_initializer c = is_assignment_expression c
+
+abbrev pub is_member : Category → Bool
+is_member member = true
+is_member others = false
+
+abbrev pub is_enumerator : Category → Bool
+is_enumerator enumerator = true
+is_enumerator others = false
+
+abbrev pub is_declarator : Category → Bool
+is_declarator declarator = true
+is_declarator others = false
+
+abbrev pub is_parameter : Category → Bool
+is_parameter parameter = true
+is_parameter others = false
+
+-- what stands in a type name behind the specifiers
+abbrev pub is_abstract : Category → Bool
+is_abstract abstract_declarator = true
+is_abstract no_name = true
+is_abstract others = false
+
+-- with a name or without
+abbrev pub is_any_declarator : Category → Bool
+is_any_declarator declarator = true
+is_any_declarator c = is_abstract c
+
+-- what stands in parentheses
+abbrev pub is_in_parentheses : Category → Bool
+is_in_parentheses declarator = true
+is_in_parentheses abstract_declarator = true
+is_in_parentheses c = is_expression c
+
+abbrev pub is_statement : Category → Bool
+is_statement block = true
+is_statement empty = true
+is_statement statement = true
+is_statement others = false
+
+abbrev pub is_block_item : Category → Bool
+is_block_item declaration = true
+is_block_item c = is_statement c
+
+-- ---- rows of categories
+
+abbrev pub at_most_one : (Category → Bool) → List Category → Bool
+at_most_one test [] = true
+at_most_one test (c ∷ []) = test c
+at_most_one test others = false
+
+abbrev pub one_or_more : (Category → Bool) → List Category → Bool
+one_or_more test [] = false
+one_or_more test (c ∷ more) = list_all test (c ∷ more)
+
+-- specifiers, where those before them say a type or do not: a typedef name stands only where none says one
+unfoldable pub are_specifiers : Bool → List Category → Bool
+are_specifiers typed [] = true
+are_specifiers typed (storage_word ∷ more) = are_specifiers typed more
+are_specifiers typed (type_specifier ∷ more) = are_specifiers true more
+are_specifiers false (typedef_name ∷ more) = are_specifiers true more
+are_specifiers typed others = false
+
+-- what stands in the braces of a `switch`, from such a place on: groups, each of labels and then statements
+unfoldable pub are_groups : Standing → List Category → Bool
+are_groups standing [] = may_end standing
+are_groups standing (switch_label ∷ more) = are_groups behind_label more
+are_groups standing (c ∷ more) = is_labelled standing && (is_statement c && are_groups behind_statement more)
+
+-- ---- the tables
+
+-- the kids of a node of this kind, with this text
+unfoldable pub kids_fit : SynKind → List ℕ → List Category → Bool
+kids_fit kind.Unit text externals = one_or_more is_external externals
+kids_fit kind.Function text (specifiers ∷ declarator ∷ block ∷ []) = true
+kids_fit kind.Declaration text (specifiers ∷ declared) = list_all is_init_declarator declared
+kids_fit kind.InitDecl text (declarator ∷ initial) = at_most_one is_initializer initial
+kids_fit kind.Braces text values = one_or_more is_initializer values
+kids_fit kind.Specs text (c ∷ more) = are_specifiers false (c ∷ more)
+kids_fit kind.Word text [] = true
+kids_fit kind.StructSpec tag members = list_all is_member members
+kids_fit kind.Member text (specifiers ∷ declarators) = one_or_more is_declarator declarators
+kids_fit kind.EnumSpec tag enumerators = list_all is_enumerator enumerators
+kids_fit kind.Enumer text value = at_most_one is_conditional_expression value
+kids_fit kind.Ident text [] = true
+kids_fit kind.Pointer text (inner ∷ []) = is_any_declarator inner
+kids_fit kind.ArrayOf text (inner ∷ size) = is_any_declarator inner && at_most_one is_conditional_expression size
+kids_fit kind.Takes text (declarator ∷ parameters) = list_all is_parameter parameters
+kids_fit kind.Param text (specifiers ∷ declared ∷ []) = is_any_declarator declared
+kids_fit kind.NoName text [] = true
+kids_fit kind.TypeName text (specifiers ∷ derived ∷ []) = is_abstract derived
+kids_fit kind.Block text items = list_all is_block_item items
+kids_fit kind.ExprStmt text (value ∷ []) = is_expression value
+kids_fit kind.Empty text [] = true
+kids_fit kind.If text (condition ∷ first ∷ []) = is_expression condition && is_statement first
+kids_fit kind.If text (condition ∷ first ∷ second ∷ []) = is_expression condition && (is_statement first && is_statement second)
+kids_fit kind.While text (condition ∷ body ∷ []) = is_expression condition && is_statement body
+kids_fit kind.Do text (body ∷ condition ∷ []) = is_statement body && is_expression condition
+kids_fit kind.For text (first ∷ condition ∷ step ∷ body ∷ []) =
+    is_first_clause first && (is_optional_expression condition && (is_optional_expression step && is_statement body))
+kids_fit kind.Break text [] = true
+kids_fit kind.Continue text [] = true
+kids_fit kind.Return text value = at_most_one is_expression value
+kids_fit kind.Switch text (value ∷ groups) = is_expression value && are_groups at_first groups
+kids_fit kind.Case text (constant ∷ []) = is_conditional_expression constant
+kids_fit kind.Default text [] = true
+kids_fit kind.Paren text (inner ∷ []) = is_in_parentheses inner
+kids_fit (kind.Int type) text [] = true
+kids_fit kind.Char text [] = true
+kids_fit kind.Str text [] = true
+kids_fit kind.Var text [] = true
+kids_fit kind.Unary operator (operand ∷ []) = is_operand operator operand
+kids_fit kind.Post operator (operand ∷ []) = is_postfix_expression operand
+kids_fit kind.Binary operator (left ∷ right ∷ []) = is_left_operand operator left && is_right_operand operator right
+kids_fit kind.Assign operator (place ∷ value ∷ []) = is_unary_expression place && is_assignment_expression value
+kids_fit kind.Cond text (condition ∷ first ∷ second ∷ []) =
+    is_binary_expression condition && (is_expression first && is_conditional_expression second)
+kids_fit kind.Comma text (left ∷ right ∷ []) = is_expression left && is_assignment_expression right
+kids_fit kind.Index text (array ∷ index ∷ []) = is_postfix_expression array && is_expression index
+kids_fit kind.Call text (callee ∷ arguments) = is_postfix_expression callee && list_all is_assignment_expression arguments
+kids_fit kind.Dot text (operand ∷ []) = is_postfix_expression operand
+kids_fit kind.Arrow text (operand ∷ []) = is_postfix_expression operand
+kids_fit kind.Cast text (type_name ∷ operand ∷ []) = is_cast_expression operand
+kids_fit kind.SizeExpr text (operand ∷ []) = is_unary_expression operand
+kids_fit kind.SizeType text (type_name ∷ []) = true
+kids_fit kind text others = false
+
+-- the text of a node of this kind: where no line says another, it is empty
+unfoldable pub text_fits : SynKind → List ℕ → Bool
+text_fits kind.Word text = is_storage_word text || (is_type_word text || is_identifier text)
+text_fits kind.Ident text = is_identifier text
+text_fits kind.Var text = is_identifier text
+text_fits kind.Enumer text = is_identifier text
+text_fits kind.Dot text = is_identifier text
+text_fits kind.Arrow text = is_identifier text
+text_fits kind.StructSpec text = is_identifier text
+text_fits kind.EnumSpec text = is_identifier text
+text_fits kind.Unary text = is_unary text
+text_fits kind.Post text = is_increment text
+text_fits kind.Binary text = nat_le 1 (binary_level text)
+text_fits kind.Assign text = is_assignment text
+text_fits kind [] = true
+text_fits kind others = false
+
+-- the bytes of a string; empty in any other node
+unfoldable pub bytes_fit : SynKind → List ℕ → Bool
+bytes_fit kind.Str bytes = true
+bytes_fit kind [] = true
+bytes_fit kind others = false
+
+-- the value of a number or a character; 0 in any other node
+unfoldable pub value_fits : SynKind → ℕ → Bool
+value_fits (kind.Int type) value = true
+value_fits kind.Char value = true
+value_fits kind value = value == 0
+
+-- what the grammar says of kids beside their categories: before an `else` no statement ends in an `if` without one, and the
+-- parameters are not the word `void` alone
+unfoldable pub are_apart : SynKind → Forest → Bool
+are_apart kind.If (tree condition ck (tree first fk (tree second sk none))) = not (ends_open (record { label = first; kids = fk }))
+are_apart kind.Takes (tree inner ik parameters) = not (is_lone_void parameters)
+are_apart kind kids = true
+
+-- ---- the shape of a node
+
+unfoldable pub has_shape : Tree → Bool
+has_shape t =
+    text_fits t.label.kind t.label.text && (bytes_fit t.label.kind t.label.bytes && (value_fits t.label.kind t.label.value
+    && (are_apart t.label.kind t.kids && kids_fit t.label.kind t.label.text (categories t.kids))))
+
+-- each of their nodes has its shape
+unfoldable pub are_shaped : Forest → Bool
+are_shaped none = true
+are_shaped (tree label kids rest) = has_shape (record { label = label; kids = kids }) && (are_shaped kids && are_shaped rest)
+
+-- the node at this place is the root of a tree, and each node of it has its shape
+abbrev pub IsShapedAt : List SynNode → SynId → Type 0
+IsShapedAt table id = (t : Tree) × StandsFor table id t × (are_shaped (one t) ≡ true)
