@@ -1,1 +1,2 @@
 pub mod ShapesBase
+pub mod ShapesLaw

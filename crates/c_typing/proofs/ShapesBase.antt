@@ -114,6 +114,9 @@ unfolding is_within
 right_operand n text (category.expression level) e f = grind (arith, nat_tests, e, f)
 right_operand n text _ e f = f
 
+pub some_level : (n : ℕ) (text : List ℕ) → binary_level text ≡ suc n → nat_le 1 (binary_level text) ≡ true
+some_level n text e = grind (arith, nat_tests, e)
+
 -- ---- classes
 
 pub optional_of : (c : Category) → is_expression c ≡ true → is_optional_expression c ≡ true
@@ -189,6 +192,12 @@ name_stands text cs = by (is_type_word text) (is_storage_word text)
     by type true = refl
     by true false = refl
     by false false = refl
+
+-- a struct or an enum, behind specifiers that say a type or none
+pub type_stands : (typed : Bool) (cs : List Category) (c : Category) (says : Bool) → c ≡ category.type_specifier → says ≡ true → are_specifiers typed (c ∷ cs) ≡ are_specifiers (typed || says) cs
+unfolding are_specifiers
+type_stands true cs c says e f = rw e refl
+type_stands false cs c says e f = rw (e, f) refl
 
 pub specifier_text : (text : List ℕ) → is_type_word text || is_storage_word text ≡ true → is_storage_word text || (is_type_word text || is_identifier text) ≡ true
 specifier_text text e = by (is_type_word text) (is_storage_word text) (is_identifier text) e
