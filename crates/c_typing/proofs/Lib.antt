@@ -1,2 +1,3 @@
 pub mod ShapesBase
 pub mod ShapesLaw
+pub mod ShapesPlaces

@@ -120,6 +120,7 @@ no_name_shaped at = over (plain_node kind.NoName at none) refl no_trees
 
 mutual
   unfolding category_by is_within text_fits bytes_fit value_fits kids_fit are_apart has_shape are_groups are_specifiers
+
   shaped : {names : Names} {part : Part} {a b : List Token} {t : Tree} → Derives names part a b t → Shaped part t
   -- units and declarations
   shaped (rule.unit_of ts) = let r = shaped_row ts in node _ refl r.fits r.all
@@ -280,3 +281,9 @@ mutual
   shaped_row (rule.some_arguments ts) = let r = shaped_row ts in record { fits = r.fits; all = r.all }
   shaped_row (rule.last_argument t) = let p = shaped t in last p (both p.fits refl)
   shaped_row (rule.more_arguments t ts) = let p = shaped t in let r = shaped_row ts in more p r (both p.fits r.fits)
+
+pub all_shaped : (tokens : List Token) (t : Tree) → IsTreeOf tokens t → are_shaped (one t) ≡ true
+all_shaped tokens t derived = (shaped derived).all
+
+pub root_is_unit : (tokens : List Token) (t : Tree) → IsTreeOf tokens t → category_of t ≡ category.unit
+root_is_unit tokens t derived = (shaped derived).fits
