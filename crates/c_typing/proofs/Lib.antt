@@ -1,3 +1,4 @@
 pub mod ShapesBase
 pub mod ShapesLaw
 pub mod ShapesPlaces
+pub mod ShapesRows
