@@ -2,3 +2,4 @@ pub mod ShapesBase
 pub mod ShapesLaw
 pub mod ShapesPlaces
 pub mod ShapesRows
+pub mod ShapesTable

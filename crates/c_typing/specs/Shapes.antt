@@ -4,7 +4,7 @@
 -- Each tree has a syntactic category (C99 6.1), told from its root, and where the root is a `Pointer`, an `ArrayOf` or a `Paren`
 -- from its first kid. `text_fits` and `kids_fit` are the tables, with a line for each kind; a node has its shape where its text
 -- and the categories of its kids are in them.
-use Rattle.std.specs.Prelude.{◌≡◌, ℕ, suc, ◌+◌, ◌<◌, Bool, true, false, List, [], ◌∷◌, ◌||◌, ◌&&◌, not, if◌then◌else◌, nat_le, ◌==◌, codes}
+use Rattle.std.specs.Prelude.{◌≡◌, ℕ, suc, ◌+◌, ◌<◌, Bool, true, false, List, [], ◌∷◌, ◌++◌, map, get_or, ◌||◌, ◌&&◌, not, if◌then◌else◌, nat_le, ◌==◌, codes}
 use Rattle.std.specs.List.{list_all}
 use Rattle.c_syntax.specs.declared.kind.SynKind.{SynKind}
 use Rattle.c_syntax.specs.declared.kind.SynKind.TheVariants as kind
@@ -425,3 +425,25 @@ are_shaped (tree label kids rest) = has_shape (record { label = label; kids = ki
 -- the node at this place is the root of a tree, and each node of it has its shape
 abbrev pub IsShapedAt : List SynNode → SynId → Type 0
 IsShapedAt table id = (t : Tree) × StandsFor table id t × (are_shaped (one t) ≡ true)
+
+-- ---- shapes by the places of nodes
+
+-- what these categories are at these places
+abbrev pub at_places : List Category → List SynId → List Category
+at_places known ids = map (λ (id : SynId). get_or known id.number other) ids
+
+-- the categories of the nodes of a table, behind those that are known: each from those of its kids, which stand before it
+abbrev pub categories_behind : List Category → List SynNode → List Category
+categories_behind known [] = known
+categories_behind known (n ∷ rest) = categories_behind (known ++ category_by n.kind n.text (at_places known n.kids) ∷ []) rest
+
+abbrev pub categories_of : List SynNode → List Category
+categories_of table = categories_behind [] table
+
+-- the node at this place has the category at this place, and its text and the categories of its kids are in the tables
+pub record Fits (known : List Category) (place : ℕ) (n : SynNode) : Type 0 where
+  pub category : get_or known place other ≡ category_by n.kind n.text (at_places known n.kids)
+  pub text : text_fits n.kind n.text ≡ true
+  pub bytes : bytes_fit n.kind n.bytes ≡ true
+  pub value : value_fits n.kind n.value ≡ true
+  pub kids : kids_fit n.kind n.text (at_places known n.kids) ≡ true
