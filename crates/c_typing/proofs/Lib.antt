@@ -3,3 +3,4 @@ pub mod ShapesLaw
 pub mod ShapesPlaces
 pub mod ShapesRows
 pub mod ShapesTable
+pub mod ShapesParents

@@ -374,6 +374,90 @@ kids_fit kind.SizeExpr text (operand ∷ []) = is_unary_expression operand
 kids_fit kind.SizeType text (type_name ∷ []) = true
 kids_fit kind text others = false
 
+abbrev pub holds_statements : SynKind → Bool
+holds_statements kind.Block = true
+holds_statements kind.If = true
+holds_statements kind.While = true
+holds_statements kind.Do = true
+holds_statements kind.For = true
+holds_statements kind.Switch = true
+holds_statements others = false
+
+abbrev pub holds_expressions : SynKind → Bool
+holds_expressions kind.InitDecl = true
+holds_expressions kind.Braces = true
+holds_expressions kind.Enumer = true
+holds_expressions kind.ArrayOf = true
+holds_expressions kind.ExprStmt = true
+holds_expressions kind.If = true
+holds_expressions kind.While = true
+holds_expressions kind.Do = true
+holds_expressions kind.For = true
+holds_expressions kind.Return = true
+holds_expressions kind.Switch = true
+holds_expressions kind.Case = true
+holds_expressions kind.Paren = true
+holds_expressions kind.Unary = true
+holds_expressions kind.Post = true
+holds_expressions kind.Binary = true
+holds_expressions kind.Assign = true
+holds_expressions kind.Cond = true
+holds_expressions kind.Comma = true
+holds_expressions kind.Index = true
+holds_expressions kind.Call = true
+holds_expressions kind.Dot = true
+holds_expressions kind.Arrow = true
+holds_expressions kind.Cast = true
+holds_expressions kind.SizeExpr = true
+holds_expressions others = false
+
+-- the nodes that a node of this category is a kid of; a consequence of `kids_fit`, read from below
+unfoldable pub stands_in : Category → SynKind → Bool
+stands_in function kind.Unit = true
+stands_in declaration kind.Unit = true
+stands_in declaration kind.Block = true
+stands_in declaration kind.For = true
+stands_in init_declarator kind.Declaration = true
+stands_in braces kind.InitDecl = true
+stands_in braces kind.Braces = true
+stands_in specifiers kind.Function = true
+stands_in specifiers kind.Declaration = true
+stands_in specifiers kind.Member = true
+stands_in specifiers kind.Param = true
+stands_in specifiers kind.TypeName = true
+stands_in storage_word kind.Specs = true
+stands_in typedef_name kind.Specs = true
+stands_in type_specifier kind.Specs = true
+stands_in member kind.StructSpec = true
+stands_in enumerator kind.EnumSpec = true
+stands_in declarator kind.Function = true
+stands_in declarator kind.InitDecl = true
+stands_in declarator kind.Member = true
+stands_in declarator kind.Param = true
+stands_in declarator kind.Pointer = true
+stands_in declarator kind.ArrayOf = true
+stands_in declarator kind.Takes = true
+stands_in declarator kind.Paren = true
+stands_in abstract_declarator kind.Param = true
+stands_in abstract_declarator kind.TypeName = true
+stands_in abstract_declarator kind.Pointer = true
+stands_in abstract_declarator kind.ArrayOf = true
+stands_in abstract_declarator kind.Paren = true
+stands_in no_name kind.Param = true
+stands_in no_name kind.TypeName = true
+stands_in no_name kind.Pointer = true
+stands_in no_name kind.ArrayOf = true
+stands_in parameter kind.Takes = true
+stands_in type_name kind.Cast = true
+stands_in type_name kind.SizeType = true
+stands_in block kind.Function = true
+stands_in block k = holds_statements k
+stands_in empty k = holds_statements k
+stands_in statement k = holds_statements k
+stands_in switch_label kind.Switch = true
+stands_in (expression level) k = holds_expressions k
+stands_in c k = false
+
 -- the text of a node of this kind: where no line says another, it is empty
 unfoldable pub text_fits : SynKind → List ℕ → Bool
 text_fits kind.Word text = is_storage_word text || (is_type_word text || is_identifier text)
