@@ -4,3 +4,4 @@ pub mod ShapesPlaces
 pub mod ShapesRows
 pub mod ShapesTable
 pub mod ShapesParents
+pub mod ShapesNames

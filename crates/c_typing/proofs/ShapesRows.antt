@@ -5,7 +5,8 @@ use Rattle.c_lexer.specs.declared.token.IntType.TheVariants as type
 use Rattle.c_syntax.specs.declared.kind.SynKind.{SynKind}
 use Rattle.c_syntax.specs.declared.kind.SynKind.TheVariants as kind
 use Rattle.c_syntax.specs.Trees.{Tree, Forest, none, ◌then◌, one, two, three, text_node, plain_node, int_node}
-use Rattle.c_typing.specs.Shapes.{Category, unit, function, declaration, init_declarator, braces, specifiers, storage_word, typedef_name, type_specifier, member, enumerator, declarator, abstract_declarator, no_name, parameter, type_name, block, empty, statement, switch_label, expression, binary_level, category_by, category_of, is_within, are_specifiers, are_groups, kids_fit, text_fits, bytes_fit, value_fits, are_apart, has_shape, are_shaped}
+use Rattle.c_typing.specs.Shapes.{Category, unit, function, declaration, init_declarator, braces, specifiers, storage_word, typedef_name, type_specifier, member, enumerator, declarator, abstract_declarator, no_name, parameter, type_name, block, empty, statement, switch_label, expression, binary_level, category_by, category_of, is_within, are_specifiers, are_groups, kids_fit, text_fits, bytes_fit, value_fits, are_apart, has_shape, are_shaped, stands_in, lowest_kind, categories_of}
+use Rattle.c_syntax.specs.Tables.{table_of}
 
 -- ---- kids
 
@@ -223,3 +224,30 @@ pub void_alone : has_shape (plain_node kind.Takes 0 (two (named kind.Ident "f" n
     (plain_node kind.Param 0 (two (plain_node kind.Specs 0 (one (named kind.Word "void" none))) (plain_node kind.NoName 0 none))))) ≡ false
 unfolding category_by is_within kids_fit text_fits bytes_fit value_fits are_apart has_shape
 void_alone = refl
+
+-- a name is the lowest node of its declarator: (*a)[2] and *
+pub lowest_nodes : lowest_kind kind.ArrayOf (two (plain_node kind.Paren 0 (one (plain_node kind.Pointer 0 (one (named kind.Ident "a" none))))) (int_node type.Int 2 0)) ∷
+    lowest_kind kind.Pointer (one (plain_node kind.NoName 0 none)) ∷ [] ≡ kind.Ident ∷ kind.NoName ∷ []
+lowest_nodes = refl
+
+-- the categories of the nodes of a table, in order: int *f(int (*)[2]) { return (a, 1); }
+abbrev short_unit : Tree
+short_unit = plain_node kind.Unit 0 (one (plain_node kind.Function 0 (three
+    int
+    (plain_node kind.Pointer 0 (one (plain_node kind.Takes 0 (two (named kind.Ident "f" none)
+    (plain_node kind.Param 0 (two int (plain_node kind.ArrayOf 0 (two (plain_node kind.Paren 0 (one (plain_node kind.Pointer 0 (one (plain_node kind.NoName 0 none))))) (int_node type.Int 2 0)))))))))
+    (plain_node kind.Block 0 (one (plain_node kind.Return 0 (one (plain_node kind.Paren 0 (one (plain_node kind.Comma 0 (two (named kind.Var "a" none) (int_node type.Int 1 0))))))))))))
+
+pub short_table : categories_of (table_of short_unit)
+    ≡ type_specifier ∷ specifiers ∷ declarator ∷ type_specifier ∷ specifiers ∷ no_name ∷ abstract_declarator ∷ abstract_declarator ∷ name ∷ abstract_declarator
+    ∷ parameter ∷ declarator ∷ declarator ∷ name ∷ name ∷ listed ∷ name ∷ statement ∷ block ∷ function ∷ unit ∷ []
+unfolding category_by
+short_table = refl
+
+-- where some categories may stand
+pub parents_of_some :
+    stands_in switch_label kind.Switch ∷ stands_in switch_label kind.Block ∷ stands_in parameter kind.Takes ∷ stands_in parameter kind.Function
+    ∷ stands_in block kind.Function ∷ stands_in statement kind.Function ∷ stands_in no_name kind.Paren ∷ stands_in unit kind.Unit ∷ []
+    ≡ true ∷ false ∷ true ∷ false ∷ true ∷ false ∷ false ∷ false ∷ []
+unfolding stands_in
+parents_of_some = refl

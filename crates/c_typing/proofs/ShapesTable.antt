@@ -118,13 +118,13 @@ all_five true true false s t e = absurd (true≢false (sym e))
 all_five true false r s t e = absurd (true≢false (sym e))
 all_five false q r s t e = absurd (true≢false (sym e))
 
-record Parts (label : Label) (kids : Forest) : Type 0 where
-  text : text_fits label.kind label.text ≡ true
-  bytes : bytes_fit label.kind label.bytes ≡ true
-  value : value_fits label.kind label.value ≡ true
-  fit : kids_fit label.kind label.text (categories kids) ≡ true
+pub record Parts (label : Label) (kids : Forest) : Type 0 where
+  pub text : text_fits label.kind label.text ≡ true
+  pub bytes : bytes_fit label.kind label.bytes ≡ true
+  pub value : value_fits label.kind label.value ≡ true
+  pub fit : kids_fit label.kind label.text (categories kids) ≡ true
 
-parts : (label : Label) (kids : Forest) → has_shape (record { label = label; kids = kids }) ≡ true → Parts label kids
+pub parts : (label : Label) (kids : Forest) → has_shape (record { label = label; kids = kids }) ≡ true → Parts label kids
 unfolding has_shape
 parts label kids e =
     let all = all_five (text_fits label.kind label.text) (bytes_fit label.kind label.bytes) (value_fits label.kind label.value) (are_apart label.kind kids) (kids_fit label.kind label.text (categories kids)) e in
@@ -135,7 +135,7 @@ all_three true true r e = (refl, refl, e)
 all_three true false r e = absurd (true≢false (sym e))
 all_three false q r e = absurd (true≢false (sym e))
 
-apart : (label : Label) (kids rest : Forest) → are_shaped (tree label kids rest) ≡ true
+pub apart : (label : Label) (kids rest : Forest) → are_shaped (tree label kids rest) ≡ true
     → (has_shape (record { label = label; kids = kids }) ≡ true) × (are_shaped kids ≡ true) × (are_shaped rest ≡ true)
 unfolding are_shaped
 apart label kids rest e = all_three (has_shape (record { label = label; kids = kids })) (are_shaped kids) (are_shaped rest) e

@@ -531,3 +531,17 @@ pub record Fits (known : List Category) (place : ℕ) (n : SynNode) : Type 0 whe
   pub bytes : bytes_fit n.kind n.bytes ≡ true
   pub value : value_fits n.kind n.value ≡ true
   pub kids : kids_fit n.kind n.text (at_places known n.kids) ≡ true
+
+-- ---- names of declarators
+
+-- the kind of the lowest node of a tree, by that of its root and its kids
+abbrev pub lowest_kind : SynKind → Forest → SynKind
+lowest_kind k none = k
+lowest_kind k (tree label kids rest) = lowest_kind label.kind kids
+
+-- the lowest node of a declarator is its name, or the place of the absent name
+abbrev pub BeginsWithName : Category → SynKind → Type 0
+BeginsWithName declarator lowest = lowest ≡ kind.Ident
+BeginsWithName abstract_declarator lowest = lowest ≡ kind.NoName
+BeginsWithName no_name lowest = lowest ≡ kind.NoName
+BeginsWithName others lowest = Unit {0}

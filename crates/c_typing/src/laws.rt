@@ -1,12 +1,14 @@
 // What holds of all derived trees.
-ghost use Rattle.std.specs.Prelude.{◌≡◌, ◌<◌, true, List, length, slice_get, Some};
+ghost use Rattle.std.specs.Prelude.{◌≡◌, ℕ, ◌<◌, true, List, length, slice_get, Some};
+ghost use Rattle.std.specs.List.{list_all};
 ghost use Rattle.c_lexer.specs.declared.token.Token.{Token};
+ghost use Rattle.c_syntax.specs.declared.kind.SynKind.{SynKind};
 ghost use Rattle.c_syntax.specs.declared.syntax.SynId.{SynId};
 ghost use Rattle.c_syntax.specs.declared.syntax.SynNode.{SynNode};
 ghost use Rattle.c_syntax.specs.Tables.{table_of};
 ghost use Rattle.c_syntax.specs.Trees.{Tree, one};
 ghost use Rattle.c_grammar.specs.Derivation.{IsTreeOf};
-ghost use Rattle.c_typing.specs.Shapes.{unit, category_of, are_shaped, IsShapedAt, categories_of, Fits};
+ghost use Rattle.c_typing.specs.Shapes.{Category, unit, category_of, kids_fit, stands_in, lowest_kind, BeginsWithName, are_shaped, IsShapedAt, categories_of, Fits};
 
 /// In a tree that some token list derives each node has its shape, and the root is a unit. So the node at each place of
 /// its table is the root of a tree whose nodes have their shapes; and it has its text, and kids, by the categories at
@@ -22,4 +24,16 @@ pub fn shapes()
         → IsTreeOf tokens t
         → slice_get (table_of t) id.number ≡ Some n
         → Fits (categories_of (table_of t)) id.number n }
+{}
+
+/// What the tables say of a node they say of its parent too: each kid stands in a node that may have it.
+pub fn parents()
+    ensures { (k : SynKind) (text : List ℕ) (kids : List Category)
+        → kids_fit k text kids ≡ true
+        → list_all (λ c. stands_in c k) kids ≡ true }
+{}
+
+/// The lowest node of a declarator is its name, or the place of the absent name.
+pub fn names()
+    ensures { (t : Tree) → are_shaped (one t) ≡ true → BeginsWithName (category_of t) (lowest_kind t.label.kind t.kids) }
 {}

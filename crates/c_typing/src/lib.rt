@@ -3,11 +3,17 @@
 // `specs/Shapes.antt` has the tables of shapes: which text and which kids a node of each kind has.
 //
 // The theorem, on `shapes`: in a tree that some token list derives, each node has its shape, and so has
-// the root of the tree at each place of its table.
+// the node at each place of its table. On `parents`: which nodes a node may be a kid of follows from the
+// tables. On `names`: the lowest node of a declarator is its name, or the place of the absent name.
+//
+// The proofs: `proofs/ShapesLaw.antt` is the induction on the derivation, with a case for each rule, over
+// the facts of `proofs/ShapesBase.antt`; `proofs/ShapesPlaces.antt` and `proofs/ShapesTable.antt` take it
+// to the table; `proofs/ShapesParents.antt` and `proofs/ShapesNames.antt` have the other two laws, and
+// `proofs/ShapesRows.antt` shapes that hold and shapes that do not.
 //
 // Source: C99 6.5 to 6.9, without what docs/DECISIONS.md leaves out.
 #![tactic(auto)]
 
 mod laws;
 
-pub use laws::shapes;
+pub use laws::{names, parents, shapes};
