@@ -5,3 +5,4 @@ pub mod ShapesRows
 pub mod ShapesTable
 pub mod ShapesParents
 pub mod ShapesNames
+pub mod ShapesIdentifiers

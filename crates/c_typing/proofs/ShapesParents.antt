@@ -13,7 +13,7 @@ use Rattle.c_typing.proofs.ShapesBase.{both, all_of, within_more}
 
 -- all but expressions
 closed : List Category
-closed = category.unit ∷ category.function ∷ category.declaration ∷ category.init_declarator ∷ category.braces ∷ category.specifiers ∷ category.storage_word ∷ category.typedef_name ∷ category.type_specifier ∷ category.member ∷ category.enumerator ∷ category.declarator ∷ category.abstract_declarator ∷ category.no_name ∷ category.parameter ∷ category.type_name ∷ category.block ∷ category.empty ∷ category.statement ∷ category.switch_label ∷ category.other ∷ []
+closed = category.unit ∷ category.function ∷ category.declaration ∷ category.init_declarator ∷ category.braces ∷ category.specifiers ∷ category.storage_word ∷ category.typedef_name ∷ category.type_specifier ∷ category.member ∷ category.enumerator ∷ category.declarator ∷ category.abstract_declarator ∷ category.no_name ∷ category.parameter ∷ category.type_name ∷ category.block ∷ category.empty ∷ category.statement ∷ category.switch_label ∷ category.no_category ∷ []
 
 pass_at : (test : Category → Bool) (cs : List Category) (n : ℕ) → list_all test cs ≡ true → get_or (map test cs) n true ≡ true
 pass_at test [] n e = refl
@@ -47,7 +47,7 @@ pass test e f category.block = pass_at test closed 16 e
 pass test e f category.empty = pass_at test closed 17 e
 pass test e f category.statement = pass_at test closed 18 e
 pass test e f category.switch_label = pass_at test closed 19 e
-pass test e f category.other = pass_at test closed 20 e
+pass test e f category.no_category = pass_at test closed 20 e
 
 implied : (p q : Bool) → q || not p ≡ true → p ≡ true → q ≡ true
 implied p true e f = refl

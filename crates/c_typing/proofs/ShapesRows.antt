@@ -5,7 +5,8 @@ use Rattle.c_lexer.specs.declared.token.IntType.TheVariants as type
 use Rattle.c_syntax.specs.declared.kind.SynKind.{SynKind}
 use Rattle.c_syntax.specs.declared.kind.SynKind.TheVariants as kind
 use Rattle.c_syntax.specs.Trees.{Tree, Forest, none, ◌then◌, one, two, three, text_node, plain_node, int_node}
-use Rattle.c_typing.specs.Shapes.{Category, unit, function, declaration, init_declarator, braces, specifiers, storage_word, typedef_name, type_specifier, member, enumerator, declarator, abstract_declarator, no_name, parameter, type_name, block, empty, statement, switch_label, expression, binary_level, category_by, category_of, is_within, are_specifiers, are_groups, kids_fit, text_fits, bytes_fit, value_fits, are_apart, has_shape, are_shaped, stands_in, lowest_kind, categories_of}
+use Rattle.c_typing.specs.Shapes.{Category, unit, function, declaration, init_declarator, braces, specifiers, storage_word, typedef_name, type_specifier, member, enumerator, declarator, abstract_declarator, no_name, parameter, type_name, block, empty, statement, switch_label, expression, binary_level, category_by, category_of, is_within, are_specifiers, are_groups, kids_fit, text_fits, bytes_fit, value_fits, are_apart, has_shape, are_shaped, stands_in, lowest_kind, categories_of, in_row, are_read_by}
+use Rattle.c_grammar.specs.Scopes.{opened}
 use Rattle.c_syntax.specs.Tables.{table_of}
 
 -- ---- kids
@@ -251,3 +252,36 @@ pub parents_of_some :
     ≡ true ∷ false ∷ true ∷ false ∷ true ∷ false ∷ false ∷ false ∷ []
 unfolding stands_in
 parents_of_some = refl
+
+-- ---- identifiers
+
+-- typedef int t; int f(int t) { <items> }
+abbrev behind_typedef : String → Forest → Tree
+behind_typedef taken items = plain_node kind.Unit 0 (two
+    (plain_node kind.Declaration 0 (two (plain_node kind.Specs 0 (two (named kind.Word "typedef" none) (named kind.Word "int" none)))
+    (plain_node kind.InitDecl 0 (one (named kind.Ident "t" none)))))
+    (plain_node kind.Function 0 (three
+    int
+    (plain_node kind.Takes 0 (two (named kind.Ident "f" none) (plain_node kind.Param 0 (two int (named kind.Ident taken none)))))
+    (plain_node kind.Block 0 items))))
+
+-- return t; t x;
+abbrev uses_object : Tree
+uses_object = plain_node kind.Return 0 (one (named kind.Var "t" none))
+
+abbrev uses_type : Tree
+uses_type = plain_node kind.Declaration 0 (two (plain_node kind.Specs 0 (one (named kind.Word "t" none))) (plain_node kind.InitDecl 0 (one (named kind.Ident "x" none))))
+
+-- int t = 1;
+abbrev hides_type : Tree
+hides_type = plain_node kind.Declaration 0 (two int (plain_node kind.InitDecl 0 (two (named kind.Ident "t" none) (int_node type.Int 1 0))))
+
+-- where the parameter is another name, where it is `t`, and where a declaration hides the type
+pub reads : map (λ (t : Tree). are_read_by in_row (opened []) (one t)) (
+    behind_typedef "a" (one uses_type) ∷ behind_typedef "a" (one uses_object) ∷
+    behind_typedef "t" (one uses_type) ∷ behind_typedef "t" (one uses_object) ∷
+    behind_typedef "a" (two hides_type uses_object) ∷ behind_typedef "a" (two hides_type uses_type) ∷
+    behind_typedef "a" (two (plain_node kind.Block 0 (one hides_type)) uses_type) ∷ [])
+    ≡ true ∷ false ∷ false ∷ true ∷ true ∷ false ∷ true ∷ []
+unfolding are_read_by
+reads = refl

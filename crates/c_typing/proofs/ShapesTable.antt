@@ -57,8 +57,8 @@ module _ (before behind : List Category) (label : Label) (kids rest : Forest) wh
       let whole = length-append front (own ∷ []) in
       omega (arith, long, whole)
 
-  found : (first : ℕ) → first ≡ length before → get_or (before ++ (listed (tree label kids rest) ++ behind)) (first + size kids) category.other ≡ own
-  found first e = ap₂ (λ cs n. get_or cs n category.other) at_root (long_front first e) ∙ get_or-append_seam front own (listed rest ++ behind) category.other
+  found : (first : ℕ) → first ≡ length before → get_or (before ++ (listed (tree label kids rest) ++ behind)) (first + size kids) category.no_category ≡ own
+  found first e = ap₂ (λ cs n. get_or cs n category.no_category) at_root (long_front first e) ∙ get_or-append_seam front own (listed rest ++ behind) category.no_category
 
 -- those of the roots
 listed_roots : (before behind : List Category) (first : ℕ) (f : Forest) → first ≡ length before → at_places (before ++ (listed f ++ behind)) (roots first f) ≡ categories f

@@ -14,6 +14,7 @@ use Rattle.c_syntax.specs.declared.syntax.SynNode.{SynNode}
 use Rattle.c_syntax.specs.Trees.{Tree, Forest, none, tree, one}
 use Rattle.c_syntax.specs.Tables.{StandsFor}
 use Rattle.c_grammar.specs.Vocabulary.{is_among, is_identifier, is_type_word, is_storage_word}
+use Rattle.c_grammar.specs.Scopes.{Names, opened, add, after, after_declarator, after_parameter, parameter_entries, parameters_of, is_typedef_name, says_typedef, entries_behind}
 use Rattle.c_grammar.specs.Derivation.{Standing, at_first, behind_label, behind_statement, may_end, is_labelled, is_lone_void, ends_open}
 
 -- ---- categories
@@ -47,7 +48,7 @@ pub data Category : Type 0 where
   -- by its level, from the tightest, 0
   expression : ℕ → Category
   -- of no tree that is derived
-  other : Category
+  no_category : Category
 
 -- the levels of expressions: of `a`, `a(b)`, `-a` and `(t)a`; of binary operators from 4 to 13; of `a ? b : c`, `a = b` and `a, b`
 abbrev pub primary_level : ℕ
@@ -116,7 +117,7 @@ abbrev pub declarator_over : List Category → Category
 declarator_over (declarator ∷ rest) = declarator
 declarator_over (abstract_declarator ∷ rest) = abstract_declarator
 declarator_over (no_name ∷ rest) = abstract_declarator
-declarator_over others = other
+declarator_over others = no_category
 
 -- parentheses around these kids
 abbrev pub in_parentheses : List Category → Category
@@ -514,7 +515,7 @@ IsShapedAt table id = (t : Tree) × StandsFor table id t × (are_shaped (one t) 
 
 -- what these categories are at these places
 abbrev pub at_places : List Category → List SynId → List Category
-at_places known ids = map (λ (id : SynId). get_or known id.number other) ids
+at_places known ids = map (λ (id : SynId). get_or known id.number no_category) ids
 
 -- the categories of the nodes of a table, behind those that are known: each from those of its kids, which stand before it
 abbrev pub categories_behind : List Category → List SynNode → List Category
@@ -526,7 +527,7 @@ categories_of table = categories_behind [] table
 
 -- the node at this place has the category at this place, and its text and the categories of its kids are in the tables
 pub record Fits (known : List Category) (place : ℕ) (n : SynNode) : Type 0 where
-  pub category : get_or known place other ≡ category_by n.kind n.text (at_places known n.kids)
+  pub category : get_or known place no_category ≡ category_by n.kind n.text (at_places known n.kids)
   pub text : text_fits n.kind n.text ≡ true
   pub bytes : bytes_fit n.kind n.bytes ≡ true
   pub value : value_fits n.kind n.value ≡ true
@@ -545,3 +546,76 @@ BeginsWithName declarator lowest = lowest ≡ kind.Ident
 BeginsWithName abstract_declarator lowest = lowest ≡ kind.NoName
 BeginsWithName no_name lowest = lowest ≡ kind.NoName
 BeginsWithName others lowest = Unit {0}
+
+-- ---- how identifiers are read
+
+-- what a tree is among its parent's kids, where the names before it or behind it are not those of a plain row
+pub data Role : Type 0 where
+  in_row : Role
+  -- of a function
+  function_specifiers : Role
+  function_declarator : Role
+  function_body : Role
+  -- of a declaration; behind specifiers that say `typedef` or do not; of a declarator with its initializer
+  declaration_specifiers : Role
+  declared : Bool → Role
+  declared_name : Bool → Role
+  -- the inner declarator of a function, and its parameters
+  taking : Role
+  taken : Role
+  -- the expression of a `switch`
+  switched : Role
+
+-- the role of the first kid of a node of this kind, which has this role itself
+abbrev pub first_role : Role → SynKind → Role
+first_role role kind.Function = function_specifiers
+first_role role kind.Declaration = declaration_specifiers
+first_role (declared is_typedef) kind.InitDecl = declared_name is_typedef
+first_role role kind.Takes = taking
+first_role role kind.Switch = switched
+first_role role k = in_row
+
+-- the role of the kid behind a tree of this role
+abbrev pub next_role : Role → Tree → Role
+next_role function_specifiers t = function_declarator
+next_role function_declarator t = function_body
+next_role declaration_specifiers t = declared (says_typedef (one t))
+next_role (declared is_typedef) t = declared is_typedef
+next_role taking t = taken
+next_role taken t = taken
+next_role role t = in_row
+
+-- the names before the first kid: blocks and `for` statements are scopes; that of a function's body begins with the parameters
+abbrev pub names_inside : Role → SynKind → Names → Names
+names_inside function_body kind.Block names = names
+names_inside role kind.Block names = opened names
+names_inside role kind.For names = opened names
+names_inside role k names = names
+
+-- the names behind a tree of this role. C99 6.2.1
+abbrev pub names_behind : Role → Names → Tree → Names
+names_behind function_declarator names t = parameter_entries (parameters_of (one t)) ∷ after_declarator names false t
+names_behind (declared is_typedef) names t = add names (entries_behind is_typedef (one t))
+names_behind (declared_name is_typedef) names t = after_declarator names is_typedef t
+names_behind taking names t = opened (after names t)
+names_behind taken names t = after_parameter names t
+names_behind switched names t = opened (after names t)
+names_behind role names t = after names t
+
+-- where these names stand before it, a word among specifiers is a keyword or a typedef name, and a name in an expression is no
+-- typedef name
+abbrev pub is_read_by : Names → SynKind → List ℕ → Bool
+is_read_by names kind.Word text = is_type_word text || is_storage_word text || is_typedef_name names text
+is_read_by names kind.Var text = not (is_typedef_name names text)
+is_read_by names k text = true
+
+-- all identifiers of trees in a row are read so, where the first has this role, and these names stand before it
+unfoldable pub are_read_by : Role → Names → Forest → Bool
+are_read_by role names none = true
+are_read_by role names (tree label kids rest) =
+    is_read_by names label.kind label.text && (are_read_by (first_role role label.kind) (names_inside role label.kind names) kids
+    && are_read_by (next_role role (record { label = label; kids = kids })) (names_behind role names (record { label = label; kids = kids })) rest)
+
+-- those of a unit
+abbrev pub IsReadByNames : Tree → Type 0
+IsReadByNames t = are_read_by in_row (opened []) (one t) ≡ true

@@ -8,11 +8,11 @@ ghost use Rattle.c_syntax.specs.declared.syntax.SynNode.{SynNode};
 ghost use Rattle.c_syntax.specs.Tables.{table_of};
 ghost use Rattle.c_syntax.specs.Trees.{Tree, one};
 ghost use Rattle.c_grammar.specs.Derivation.{IsTreeOf};
-ghost use Rattle.c_typing.specs.Shapes.{Category, unit, category_of, kids_fit, stands_in, lowest_kind, BeginsWithName, are_shaped, IsShapedAt, categories_of, Fits};
+ghost use Rattle.c_typing.specs.Shapes.{Category, unit, category_of, categories_of, kids_fit, stands_in, are_shaped, IsShapedAt, Fits, lowest_kind, BeginsWithName, IsReadByNames};
 
 /// In a tree that some token list derives each node has its shape, and the root is a unit. So the node at each place of
-/// its table is the root of a tree whose nodes have their shapes; and it has its text, and kids, by the categories at
-/// their places.
+/// its table is the root of a tree whose nodes have their shapes; and by the categories at their places, its text and its
+/// kids are in the tables.
 pub fn shapes()
     ensures nodes { (tokens : List Token) (t : Tree) → IsTreeOf tokens t → are_shaped (one t) ≡ true }
     ensures root { (tokens : List Token) (t : Tree) → IsTreeOf tokens t → category_of t ≡ unit }
@@ -26,7 +26,7 @@ pub fn shapes()
         → Fits (categories_of (table_of t)) id.number n }
 {}
 
-/// What the tables say of a node they say of its parent too: each kid stands in a node that may have it.
+/// Kids that are in the tables stand in a node that may have them.
 pub fn parents()
     ensures { (k : SynKind) (text : List ℕ) (kids : List Category)
         → kids_fit k text kids ≡ true
@@ -36,4 +36,10 @@ pub fn parents()
 /// The lowest node of a declarator is its name, or the place of the absent name.
 pub fn names()
     ensures { (t : Tree) → are_shaped (one t) ≡ true → BeginsWithName (category_of t) (lowest_kind t.label.kind t.kids) }
+{}
+
+/// In a tree that some token list derives, a word among specifiers is a keyword or a typedef name, and a name in an
+/// expression is no typedef name, by the scopes of the grammar.
+pub fn identifiers()
+    ensures { (tokens : List Token) (t : Tree) → IsTreeOf tokens t → IsReadByNames t }
 {}
