@@ -12,7 +12,7 @@ use Rattle.c_typing.proofs.ShapesBase.{both, all_of, within_more}
 -- ---- what holds of each category
 
 -- all but expressions
-closed : List Category
+unfoldable pub closed : List Category
 closed = category.unit ∷ category.function ∷ category.declaration ∷ category.init_declarator ∷ category.braces ∷ category.specifiers ∷ category.storage_word ∷ category.typedef_name ∷ category.type_specifier ∷ category.member ∷ category.enumerator ∷ category.declarator ∷ category.abstract_declarator ∷ category.no_name ∷ category.parameter ∷ category.type_name ∷ category.block ∷ category.empty ∷ category.statement ∷ category.switch_label ∷ category.no_category ∷ []
 
 pass_at : (test : Category → Bool) (cs : List Category) (n : ℕ) → list_all test cs ≡ true → get_or (map test cs) n true ≡ true
@@ -24,7 +24,7 @@ pass_at test (c ∷ cs) n e = by n (test c) (list_all test cs) e (λ m f. pass_a
     by zero true later e f = refl
     by (suc n) true later e f = f n e
 
-pass : (test : Category → Bool) → list_all test closed ≡ true → ((level : ℕ) → test (category.expression level) ≡ true) → (c : Category) → test c ≡ true
+pub pass : (test : Category → Bool) → list_all test closed ≡ true → ((level : ℕ) → test (category.expression level) ≡ true) → (c : Category) → test c ≡ true
 unfolding closed
 pass test e f (category.expression level) = f level
 pass test e f category.unit = pass_at test closed 0 e
@@ -49,7 +49,7 @@ pass test e f category.statement = pass_at test closed 18 e
 pass test e f category.switch_label = pass_at test closed 19 e
 pass test e f category.no_category = pass_at test closed 20 e
 
-implied : (p q : Bool) → q || not p ≡ true → p ≡ true → q ≡ true
+pub implied : (p q : Bool) → q || not p ≡ true → p ≡ true → q ≡ true
 implied p true e f = refl
 implied true false e f = e
 implied false false e f = f
@@ -62,7 +62,7 @@ stands class k e f c h = implied (class c) (stands_in c k) (pass (λ c. stands_i
 
 -- ---- rows
 
-split : {p q : Bool} → p && q ≡ true → (p ≡ true) × (q ≡ true)
+pub split : {p q : Bool} → p && q ≡ true → (p ≡ true) × (q ≡ true)
 split {p = true} e = (refl, e)
 split {p = false} e = absurd (true≢false (sym e))
 
@@ -99,7 +99,7 @@ specifiers false (category.typedef_name ∷ more) e = specifiers true more e
 specifiers typed (_ ∷ more) e = absurd (true≢false (sym e))
 
 -- the operand of a unary operator
-operand_is_cast : (text : List ℕ) (c : Category) → is_operand text c ≡ true → is_cast_expression c ≡ true
+pub operand_is_cast : (text : List ℕ) (c : Category) → is_operand text c ≡ true → is_cast_expression c ≡ true
 operand_is_cast text c e = by (is_increment text) e
   where
     by : (increment : Bool) → (if increment then is_unary_expression c else is_cast_expression c) ≡ true → is_cast_expression c ≡ true

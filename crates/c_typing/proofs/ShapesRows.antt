@@ -5,7 +5,7 @@ use Rattle.c_lexer.specs.declared.token.IntType.TheVariants as type
 use Rattle.c_syntax.specs.declared.kind.SynKind.{SynKind}
 use Rattle.c_syntax.specs.declared.kind.SynKind.TheVariants as kind
 use Rattle.c_syntax.specs.Trees.{Tree, Forest, none, ◌then◌, one, two, three, text_node, plain_node, int_node}
-use Rattle.c_typing.specs.Shapes.{Category, unit, function, declaration, init_declarator, braces, specifiers, storage_word, typedef_name, type_specifier, member, enumerator, declarator, abstract_declarator, no_name, parameter, type_name, block, empty, statement, switch_label, expression, binary_level, category_by, category_of, is_within, are_specifiers, are_groups, kids_fit, text_fits, bytes_fit, value_fits, are_apart, has_shape, are_shaped, stands_in, lowest_kind, categories_of, in_row, are_read_by}
+use Rattle.c_typing.specs.Shapes.{Category, unit, function, declaration, init_declarator, braces, specifiers, storage_word, typedef_name, type_specifier, member, enumerator, declarator, abstract_declarator, no_name, parameter, type_name, block, empty, statement, switch_label, expression, binary_level, category_by, category_of, is_within, are_specifiers, are_groups, kids_fit, text_fits, bytes_fit, value_fits, are_apart, has_shape, are_shaped, stands_in, lowest_kind, begins_with, categories_of, in_row, are_read_by}
 use Rattle.c_grammar.specs.Scopes.{opened}
 use Rattle.c_syntax.specs.Tables.{table_of}
 
@@ -230,6 +230,10 @@ void_alone = refl
 pub lowest_nodes : lowest_kind kind.ArrayOf (two (plain_node kind.Paren 0 (one (plain_node kind.Pointer 0 (one (named kind.Ident "a" none))))) (int_node type.Int 2 0)) ∷
     lowest_kind kind.Pointer (one (plain_node kind.NoName 0 none)) ∷ [] ≡ kind.Ident ∷ kind.NoName ∷ []
 lowest_nodes = refl
+
+pub begins : map (λ c. begins_with c kind.Ident) (declarator ∷ init_declarator ∷ no_name ∷ name ∷ parameter ∷ []) ≡ true ∷ true ∷ false ∷ false ∷ false ∷ []
+unfolding begins_with
+begins = refl
 
 -- the categories of the nodes of a table, in order: int *f(int (*)[2]) { return (a, 1); }
 abbrev short_unit : Tree

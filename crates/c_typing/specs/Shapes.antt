@@ -540,12 +540,22 @@ abbrev pub lowest_kind : SynKind → Forest → SynKind
 lowest_kind k none = k
 lowest_kind k (tree label kids rest) = lowest_kind label.kind kids
 
--- the lowest node of a declarator is its name, or the place of the absent name
-abbrev pub BeginsWithName : Category → SynKind → Type 0
-BeginsWithName declarator lowest = lowest ≡ kind.Ident
-BeginsWithName abstract_declarator lowest = lowest ≡ kind.NoName
-BeginsWithName no_name lowest = lowest ≡ kind.NoName
-BeginsWithName others lowest = Unit {0}
+abbrev pub is_name : SynKind → Bool
+is_name kind.Ident = true
+is_name k = false
+
+abbrev pub is_absent_name : SynKind → Bool
+is_absent_name kind.NoName = true
+is_absent_name k = false
+
+-- the lowest node of a declarator is its name, or the place of the absent name; that of no other tree is one, but that an
+-- `InitDecl` begins with its declarator
+unfoldable pub begins_with : Category → SynKind → Bool
+begins_with declarator lowest = is_name lowest
+begins_with init_declarator lowest = is_name lowest
+begins_with abstract_declarator lowest = is_absent_name lowest
+begins_with no_name lowest = is_absent_name lowest
+begins_with c lowest = not (is_name lowest || is_absent_name lowest)
 
 -- ---- how identifiers are read
 

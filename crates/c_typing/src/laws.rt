@@ -8,7 +8,7 @@ ghost use Rattle.c_syntax.specs.declared.syntax.SynNode.{SynNode};
 ghost use Rattle.c_syntax.specs.Tables.{table_of};
 ghost use Rattle.c_syntax.specs.Trees.{Tree, one};
 ghost use Rattle.c_grammar.specs.Derivation.{IsTreeOf};
-ghost use Rattle.c_typing.specs.Shapes.{Category, unit, category_of, categories_of, kids_fit, stands_in, are_shaped, IsShapedAt, Fits, lowest_kind, BeginsWithName, IsReadByNames};
+ghost use Rattle.c_typing.specs.Shapes.{Category, unit, category_of, categories_of, kids_fit, stands_in, are_shaped, IsShapedAt, Fits, lowest_kind, begins_with, IsReadByNames};
 
 /// In a tree that some token list derives each node has its shape, and the root is a unit. So the node at each place of
 /// its table is the root of a tree whose nodes have their shapes; and by the categories at their places, its text and its
@@ -33,9 +33,10 @@ pub fn parents()
         → list_all (λ c. stands_in c k) kids ≡ true }
 {}
 
-/// The lowest node of a declarator is its name, or the place of the absent name.
+/// The lowest node of a declarator is its name, or the place of the absent name, and that of no other tree is one, but
+/// that an `InitDecl` begins with its declarator.
 pub fn names()
-    ensures { (t : Tree) → are_shaped (one t) ≡ true → BeginsWithName (category_of t) (lowest_kind t.label.kind t.kids) }
+    ensures { (t : Tree) → are_shaped (one t) ≡ true → begins_with (category_of t) (lowest_kind t.label.kind t.kids) ≡ true }
 {}
 
 /// In a tree that some token list derives, a word among specifiers is a keyword or a typedef name, and a name in an
