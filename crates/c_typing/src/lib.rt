@@ -6,8 +6,9 @@
 // The theorem, on `shapes`: in a tree that some token list derives, each node has its shape, and so has
 // the node at each place of its table. On `parents`: which nodes a node may be a kid of follows from the
 // tables. On `names`: the lowest node of a declarator is its name, or the place of the absent name, and
-// that of no other tree is one, but that an `InitDecl` begins with its declarator. On `identifiers`: in a derived tree a word among specifiers is a keyword or a typedef name, and a name in
-// an expression is no typedef name.
+// that of no other tree is one, but that an `InitDecl` begins with its declarator. On `identifiers`: in a
+// derived tree a word among specifiers is a keyword or a typedef name, and a name in an expression is no
+// typedef name.
 //
 // The proofs: `proofs/ShapesLaw.antt` is the induction on the derivation, with a case for each rule, over
 // the facts of `proofs/ShapesBase.antt`; `proofs/ShapesPlaces.antt` and `proofs/ShapesTable.antt` take it
