@@ -6,3 +6,4 @@ pub mod ShapesTable
 pub mod ShapesParents
 pub mod ShapesNames
 pub mod ShapesIdentifiers
+pub mod ShapesNodes

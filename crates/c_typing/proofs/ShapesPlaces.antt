@@ -29,6 +29,9 @@ apart : (label : Label) (kids rest : Forest) → are_shaped (tree label kids res
 unfolding are_shaped
 apart label kids rest e = both_of (has_shape (record { label = label; kids = kids })) (are_shaped kids) (are_shaped rest) e
 
+pub alone : (label : Label) (kids rest : Forest) → are_shaped (tree label kids rest) ≡ true → are_shaped (one (record { label = label; kids = kids })) ≡ true
+alone label kids rest e = (apart label kids rest e).2
+
 place : (table before : List SynNode) (first : ℕ) (f : Forest) (after : List SynNode) → table ≡ before ++ (nodes first f ++ after) → first ≡ length before
     → are_shaped f ≡ true → (i : ℕ) → first ≤ i → i < first + size f → IsShapedAt table (as_id i)
 place table before first none after e at ok i low high = absurd (omega (arith, low, high))
