@@ -1,6 +1,7 @@
 -- The nodes of a tree by their places, with their lowest nodes and their parents, and those of its table.
-use Rattle.std.proofs.Common.{◌≡◌, ℕ, zero, suc, ◌+◌, List, [], ◌∷◌, ◌++◌, length, map, true, Some, refl, sym, ap, ap₂, ◌∙◌, subst, arith, append_assoc, append-nil, length-append}
+use Rattle.std.proofs.Common.{◌≡◌, ℕ, zero, suc, ◌+◌, ◌<◌, List, [], ◌∷◌, ◌++◌, length, map, true, Some, refl, sym, ap, ap₂, ◌∙◌, subst, arith, append_assoc, append-nil, length-append}
 use Rattle.std.specs.Prelude.{slice_get}
+use Rattle.std.specs.List.{list_all}
 use Rattle.c_lexer.specs.declared.token.Token.{Token}
 use Rattle.c_syntax.specs.declared.syntax.SynId.{SynId}
 use Rattle.c_syntax.specs.declared.syntax.SynNode.{SynNode}
@@ -10,8 +11,9 @@ use Rattle.c_syntax.specs.Tables.{size, roots, node_of, table_of}
 use Rattle.c_grammar.specs.Derivation.{IsTreeOf}
 use Rattle.c_typing.specs.Places.{Node, numbers, nodes_of, nodes}
 use Rattle.c_syntax.specs.declared.label.Label.{Label}
-use Rattle.c_typing.specs.Shapes.{category_of, categories_of, are_shaped, lowest_kind, begins_with, Fits}
-use Rattle.c_typing.proofs.ShapesTable.{fits_at, apart}
+use Rattle.c_typing.specs.Shapes.{category_of, category_by, categories, categories_of, kids_fit, stands_in, are_shaped, lowest_kind, begins_with, Fits}
+use Rattle.c_typing.proofs.ShapesTable.{fits_at, apart, parts}
+use Rattle.c_typing.proofs.ShapesParents.{split, kids_stand}
 use Rattle.c_typing.proofs.ShapesNames.{begins_with_name}
 use Rattle.c_typing.proofs.ShapesLaw.{all_shaped}
 use Rattle.c_typing.proofs.ShapesPlaces.{alone}
@@ -148,3 +150,114 @@ pub node_stands : (tokens : List Token) (t : Tree) (n : ℕ) (m : Node) → IsTr
 node_stands tokens t n m derived e =
     let whole : Between (nodes t) 0 (size (one t)) (one t) = record { before = []; after = []; are = sym (append-nil (nodes t)); long = refl } in
     stand_at (nodes t) (nodes t) n m (stand_all (nodes t) 0 (size (one t)) (one t) whole (all_shaped tokens t derived)) e
+
+-- every node but the root is a kid of its parent, which may have it
+pub record HasParent (all : List Node) (m : Node) : Type 0 where
+  pub of : Tree
+  pub label_is : m.label ≡ of.label
+  pub parent : Node
+  pub found : slice_get all m.parent ≡ Some parent
+  pub front : List ℕ
+  pub back : List ℕ
+  pub among : parent.kids ≡ front ++ (m.id ∷ back)
+  pub stands : stands_in (category_of of) parent.label.kind ≡ true
+
+abbrev AllHave : List Node → List Node → Type 0
+AllHave all [] = Unit {0}
+AllHave all (m ∷ ms) = HasParent all m × AllHave all ms
+
+have-append : (all xs ys : List Node) → AllHave all xs → AllHave all ys → AllHave all (xs ++ ys)
+have-append all [] ys h k = k
+have-append all (x ∷ xs) ys h k = (h.0, have-append all xs ys h.1 k)
+
+-- the node behind those of its kids
+own_there : (all : List Node) (first parent : ℕ) (label : Label) (kids rest : Forest) → Between all first parent (tree label kids rest)
+    → slice_get all (first + size kids) ≡ Some (record { id = first + size kids; label = label; kids = numbers (roots first kids); first = first; parent = parent })
+own_there all first parent label kids rest b =
+    let id = first + size kids in
+    let own : Node = record { id = id; label = label; kids = numbers (roots first kids); first = first; parent = parent } in
+    let later = nodes_of (id + 1) parent rest in
+    let long = length-nodes first id kids in
+    let longer = length-append b.before (nodes_of first id kids) in
+    let starts = b.long in
+    let at : id ≡ length (b.before ++ nodes_of first id kids) = omega (arith, long, longer, starts) in
+    let are : all ≡ (b.before ++ nodes_of first id kids) ++ (own ∷ (later ++ b.after)) =
+        b.are ∙ ap (λ ns. b.before ++ ns) (append_assoc (nodes_of first id kids) (own ∷ later) b.after) ∙ sym (append_assoc b.before (nodes_of first id kids) (own ∷ (later ++ b.after))) in
+    ap₂ slice_get are at ∙ at_seam (b.before ++ nodes_of first id kids) own (later ++ b.after)
+
+-- the nodes of the kids
+kids_between : (all : List Node) (first parent : ℕ) (label : Label) (kids rest : Forest) → Between all first parent (tree label kids rest) → Between all first (first + size kids) kids
+kids_between all first parent label kids rest b =
+    let id = first + size kids in
+    let own : Node = record { id = id; label = label; kids = numbers (roots first kids); first = first; parent = parent } in
+    let later = nodes_of (id + 1) parent rest in
+    record { before = b.before; after = own ∷ (later ++ b.after); are = b.are ∙ ap (λ ns. b.before ++ ns) (append_assoc (nodes_of first id kids) (own ∷ later) b.after); long = b.long }
+
+-- and of the trees behind
+rest_between : (all : List Node) (first parent : ℕ) (label : Label) (kids rest : Forest) → Between all first parent (tree label kids rest) → Between all (first + size kids + 1) parent rest
+rest_between all first parent label kids rest b =
+    let id = first + size kids in
+    let own : Node = record { id = id; label = label; kids = numbers (roots first kids); first = first; parent = parent } in
+    let later = nodes_of (id + 1) parent rest in
+    let opened : all ≡ b.before ++ (nodes_of first id kids ++ (own ∷ (later ++ b.after))) = b.are ∙ ap (λ ns. b.before ++ ns) (append_assoc (nodes_of first id kids) (own ∷ later) b.after) in
+    let long = length-nodes first id kids in
+    let longer = length-append b.before (nodes_of first id kids) in
+    let last = length-append (b.before ++ nodes_of first id kids) (own ∷ []) in
+    let starts = b.long in
+    record {
+      before = (b.before ++ nodes_of first id kids) ++ own ∷ [];
+      after = b.after;
+      are = opened ∙ sym (append_assoc b.before (nodes_of first id kids) (own ∷ (later ++ b.after))) ∙ sym (append_assoc (b.before ++ nodes_of first id kids) (own ∷ []) (later ++ b.after));
+      long = omega (arith, long, longer, last, starts);
+    }
+
+linked : (all : List Node) (first parent : ℕ) (f : Forest) → Between all first parent f → are_shaped f ≡ true → (q : Node) → slice_get all parent ≡ Some q
+    → (front : List ℕ) → q.kids ≡ front ++ numbers (roots first f) → list_all (λ c. stands_in c q.label.kind) (categories f) ≡ true → AllHave all (nodes_of first parent f)
+linked all first parent none b ok q at front kids_are may = tt
+linked all first parent (tree label kids rest) b ok q at front kids_are may =
+    let id = first + size kids in
+    let own : Node = record { id = id; label = label; kids = numbers (roots first kids); first = first; parent = parent } in
+    let oks = apart label kids rest ok in
+    let mays = split {p = stands_in (category_by label.kind label.text (categories kids)) q.label.kind} {q = list_all (λ c. stands_in c q.label.kind) (categories rest)} may in
+    let below = linked all first id kids (kids_between all first parent label kids rest b) oks.1 own (own_there all first parent label kids rest b) [] refl
+        (kids_stand label.kind label.text (categories kids) (parts label kids oks.0).fit) in
+    let behind = linked all (id + 1) parent rest (rest_between all first parent label kids rest b) oks.2 q at (front ++ id ∷ [])
+        (kids_are ∙ sym (append_assoc front (id ∷ []) (numbers (roots (id + 1) rest)))) mays.1 in
+    let here : HasParent all own = record {
+          of = record { label = label; kids = kids };
+          label_is = refl;
+          parent = q;
+          found = at;
+          front = front;
+          back = numbers (roots (id + 1) rest);
+          among = kids_are;
+          stands = mays.0;
+        } in
+    have-append all (nodes_of first id kids) (own ∷ nodes_of (id + 1) parent rest) below (here, behind)
+
+have_at : (all ms : List Node) (n : ℕ) (m : Node) → AllHave all ms → slice_get ms n ≡ Some m → HasParent all m
+have_at all [] n m h e = absurd (cc e)
+have_at all (x ∷ ms) zero m h e = same e
+  where
+    same : Some x ≡ Some m → HasParent all m
+    same h2 = let equal : x ≡ m = cc h2 in subst (λ (k : Node). HasParent all k) equal h.0
+have_at all (x ∷ ms) (suc n) m h e = have_at all ms n m h.1 e
+
+got_front : (xs ys : List Node) (n : ℕ) → n < length xs → slice_get (xs ++ ys) n ≡ slice_get xs n
+got_front [] ys n lt = absurd (omega (arith, lt))
+got_front (x ∷ xs) ys zero lt = refl
+got_front (x ∷ xs) ys (suc n) lt = got_front xs ys n (omega (arith, lt))
+
+pub node_has_parent : (tokens : List Token) (t : Tree) (n : ℕ) (m : Node) → IsTreeOf tokens t → slice_get (nodes t) n ≡ Some m → n < size t.kids → HasParent (nodes t) m
+node_has_parent tokens t n m derived e lt =
+    let all = nodes t in
+    let last = size (one t) in
+    let ok = all_shaped tokens t derived in
+    let oks = apart t.label t.kids none ok in
+    let whole : Between all 0 last (one t) = record { before = []; after = []; are = sym (append-nil all); long = refl } in
+    let id = 0 + size t.kids in
+    let own : Node = record { id = id; label = t.label; kids = numbers (roots 0 t.kids); first = 0; parent = last } in
+    let below = linked all 0 id t.kids (kids_between all 0 last t.label t.kids none whole) oks.1 own (own_there all 0 last t.label t.kids none whole) [] refl
+        (kids_stand t.label.kind t.label.text (categories t.kids) (parts t.label t.kids oks.0).fit) in
+    let long = length-nodes 0 id t.kids in
+    have_at all (nodes_of 0 id t.kids) n m below (sym (got_front (nodes_of 0 id t.kids) (own ∷ []) n (omega (arith, lt, long))) ∙ e)
