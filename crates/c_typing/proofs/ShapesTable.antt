@@ -16,7 +16,7 @@ use Rattle.c_typing.proofs.ShapesLaw.{all_shaped}
 
 -- ---- the categories of trees, in post-order
 
-listed : Forest → List Category
+unfoldable pub listed : Forest → List Category
 listed none = []
 listed (tree label kids rest) = listed kids ++ (category_by label.kind label.text (categories kids) ∷ listed rest)
 
@@ -31,17 +31,17 @@ length-listed (tree label kids rest) =
 
 -- the lists where the root of the first tree stands
 module _ (before behind : List Category) (label : Label) (kids rest : Forest) where
-  own : Category
+  unfoldable pub own : Category
   own = category_by label.kind label.text (categories kids)
 
-  front : List Category
+  unfoldable pub front : List Category
   front = before ++ listed kids
 
   at_root : before ++ (listed (tree label kids rest) ++ behind) ≡ front ++ (own ∷ (listed rest ++ behind))
   unfolding listed own front
   at_root = ap (λ cs. before ++ cs) (append_assoc (listed kids) (own ∷ listed rest) behind) ∙ sym (append_assoc before (listed kids) (own ∷ (listed rest ++ behind)))
 
-  behind_root : before ++ (listed (tree label kids rest) ++ behind) ≡ (front ++ own ∷ []) ++ (listed rest ++ behind)
+  pub behind_root : before ++ (listed (tree label kids rest) ++ behind) ≡ (front ++ own ∷ []) ++ (listed rest ++ behind)
   behind_root = at_root ∙ sym (append_assoc front (own ∷ []) (listed rest ++ behind))
 
   long_front : (first : ℕ) → first ≡ length before → first + size kids ≡ length front
@@ -51,13 +51,13 @@ module _ (before behind : List Category) (label : Label) (kids rest : Forest) wh
       let whole = length-append before (listed kids) in
       omega (arith, e, below, whole)
 
-  longer_front : (first : ℕ) → first ≡ length before → first + size kids + 1 ≡ length (front ++ own ∷ [])
+  pub longer_front : (first : ℕ) → first ≡ length before → first + size kids + 1 ≡ length (front ++ own ∷ [])
   longer_front first e =
       let long = long_front first e in
       let whole = length-append front (own ∷ []) in
       omega (arith, long, whole)
 
-  found : (first : ℕ) → first ≡ length before → get_or (before ++ (listed (tree label kids rest) ++ behind)) (first + size kids) category.no_category ≡ own
+  pub found : (first : ℕ) → first ≡ length before → get_or (before ++ (listed (tree label kids rest) ++ behind)) (first + size kids) category.no_category ≡ own
   found first e = ap₂ (λ cs n. get_or cs n category.no_category) at_root (long_front first e) ∙ get_or-append_seam front own (listed rest ++ behind) category.no_category
 
 -- those of the roots
@@ -87,7 +87,7 @@ listed_behind before first (tree label kids rest) more e =
     ∙ listed_behind (front_here ++ own_here ∷ []) (first + size kids + 1) rest more (longer_front before [] label kids rest first e)
     ∙ ap (λ cs. categories_behind cs more) (append_assoc front_here (own_here ∷ []) (listed rest) ∙ append_assoc before (listed kids) (own_here ∷ listed rest))
 
-listed_table : (t : Tree) → categories_of (table_of t) ≡ listed (one t)
+pub listed_table : (t : Tree) → categories_of (table_of t) ≡ listed (one t)
 listed_table t = ap (λ ns. categories_behind [] ns) (sym (append-nil (table_of t))) ∙ listed_behind [] 0 (one t) [] refl
 
 -- ---- the shape of the node at each place

@@ -29,7 +29,7 @@ nodes_of first parent none = []
 nodes_of first parent (tree label kids rest) =
     let id = first + size kids in
     nodes_of first id kids
-        ++ (record { id = id; label = label; kids = numbers (roots first kids); first = first; parent = parent } ∷ nodes_of (id + 1) parent rest)
+    ++ (record { id = id; label = label; kids = numbers (roots first kids); first = first; parent = parent } ∷ nodes_of (id + 1) parent rest)
 
 abbrev pub nodes : Tree → List Node
 nodes t = nodes_of 0 (size (one t)) (one t)

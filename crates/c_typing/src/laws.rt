@@ -5,9 +5,11 @@ ghost use Rattle.c_lexer.specs.declared.token.Token.{Token};
 ghost use Rattle.c_syntax.specs.declared.kind.SynKind.{SynKind};
 ghost use Rattle.c_syntax.specs.declared.syntax.SynId.{SynId};
 ghost use Rattle.c_syntax.specs.declared.syntax.SynNode.{SynNode};
-ghost use Rattle.c_syntax.specs.Tables.{table_of};
+ghost use Rattle.c_syntax.specs.Tables.{size, table_of};
 ghost use Rattle.c_syntax.specs.Trees.{Tree, one};
 ghost use Rattle.c_grammar.specs.Derivation.{IsTreeOf};
+ghost use Rattle.c_typing.specs.Places.{Node, nodes};
+ghost use Rattle.c_typing.specs.ShapesOfNodes.{IsPlaced, HasParent};
 ghost use Rattle.c_typing.specs.Shapes.{Category, unit, category_of, categories_of, kids_fit, stands_in, are_shaped, IsShapedAt, Fits, lowest_kind, begins_with, IsReadByNames};
 
 /// In a tree that some token list derives each node has its shape, and the root is a unit. So the node at each place of
@@ -43,4 +45,18 @@ pub fn names()
 /// expression is no typedef name, by the scopes of the grammar.
 pub fn identifiers()
     ensures { (tokens : List Token) (t : Tree) → IsTreeOf tokens t → IsReadByNames t }
+{}
+
+/// The nodes of a derived tree by their places: each has its place as its number, its shape and its lowest node; and all
+/// but the root are among the kids of their parent, which may have them.
+pub fn nodes()
+    ensures places { (tokens : List Token) (t : Tree) (n : ℕ) (m : Node)
+        → IsTreeOf tokens t
+        → slice_get (nodes t) n ≡ Some m
+        → IsPlaced t n m }
+    ensures parents { (tokens : List Token) (t : Tree) (n : ℕ) (m : Node)
+        → IsTreeOf tokens t
+        → slice_get (nodes t) n ≡ Some m
+        → n < size t.kids
+        → HasParent t n m }
 {}

@@ -10,6 +10,8 @@
 // derived tree a word among specifiers is a keyword or a typedef name, and a name in an expression is no
 // typedef name.
 //
+// On `nodes`: of the nodes by their places, each has its shape, its lowest node and its parent.
+//
 // The proofs: `proofs/ShapesLaw.antt` is the induction on the derivation, with a case for each rule, over
 // the facts of `proofs/ShapesBase.antt`; `proofs/ShapesPlaces.antt` and `proofs/ShapesTable.antt` take it
 // to the table; `proofs/ShapesParents.antt`, `proofs/ShapesNames.antt` and `proofs/ShapesIdentifiers.antt`
@@ -20,4 +22,4 @@
 
 mod laws;
 
-pub use laws::{identifiers, names, parents, shapes};
+pub use laws::{identifiers, names, nodes, parents, shapes};
