@@ -11,7 +11,7 @@ use Rattle.c_syntax.specs.Tables.{size, roots, node_of, table_of}
 use Rattle.c_grammar.specs.Derivation.{IsTreeOf}
 use Rattle.c_typing.specs.Places.{Node, numbers, nodes_of, nodes}
 use Rattle.c_syntax.specs.declared.label.Label.{Label}
-use Rattle.c_typing.specs.ShapesOfNodes.{as_id, in_table, IsPlaced, HasParent}
+use Rattle.c_typing.specs.ShapesOfNodes.{first_behind, as_id, in_table, IsPlaced, HasParent}
 use Rattle.c_typing.specs.Shapes.{Category, no_category, category_of, category_by, categories, categories_of, kids_fit, stands_in, are_shaped, lowest_kind, begins_with, Fits}
 use Rattle.c_typing.proofs.ShapesTable as table
 use Rattle.c_typing.proofs.ShapesTable.{listed, listed_table, fits_at, apart, parts}
@@ -167,6 +167,7 @@ record Linked (all : List Node) (known : List Category) (place : ℕ) (m : Node)
   front : List ℕ
   back : List ℕ
   among : parent.kids ≡ front ++ (place ∷ back)
+  begins : m.first ≡ first_behind parent.first front
   stands : stands_in (get_or known place no_category) parent.label.kind ≡ true
 
 -- it holds of all nodes, where the first stands at this place
@@ -200,6 +201,10 @@ all_of_tree P first parent label kids rest below root later =
     all-append P first (nodes_of first (first + size kids) kids) (m ∷ nodes_of (first + size kids + 1) parent rest) below
     (subst (λ n. AllFrom P n (m ∷ nodes_of (first + size kids + 1) parent rest)) at from_root)
 
+behind_last : (first : ℕ) (front : List ℕ) (n : ℕ) → first_behind first (front ++ n ∷ []) ≡ n + 1
+behind_last first [] n = refl
+behind_last first (kid ∷ front) n = behind_last (kid + 1) front n
+
 module _ (all : List Node) (known : List Category) where
   all_begin : (first parent : ℕ) (f : Forest) → Between all known first parent f → are_shaped f ≡ true → AllFrom (Begins all known) first (nodes_of first parent f)
   all_begin first parent none b ok = tt
@@ -218,27 +223,28 @@ module _ (all : List Node) (known : List Category) where
       (all_begin (first + size kids + 1) parent rest (rest_between all known first parent label kids rest b) oks.2)
 
   all_linked : (first parent : ℕ) (f : Forest) → Between all known first parent f → are_shaped f ≡ true → (q : Node) → slice_get all parent ≡ Some q
-      → (front : List ℕ) → q.kids ≡ front ++ numbers (roots first f) → list_all (λ c. stands_in c q.label.kind) (categories f) ≡ true
+      → (front : List ℕ) → q.kids ≡ front ++ numbers (roots first f) → first ≡ first_behind q.first front → list_all (λ c. stands_in c q.label.kind) (categories f) ≡ true
       → AllFrom (Linked all known) first (nodes_of first parent f)
   unfolding own
-  all_linked first parent none b ok q at front kids_are may = tt
-  all_linked first parent (tree label kids rest) b ok q at front kids_are may =
+  all_linked first parent none b ok q at front kids_are starts may = tt
+  all_linked first parent (tree label kids rest) b ok q at front kids_are starts may =
       let n = first + size kids in
       let oks = apart label kids rest ok in
       let mays = split {p = stands_in (category_by label.kind label.text (categories kids)) q.label.kind} {q = list_all (λ c. stands_in c q.label.kind) (categories rest)} may in
       all_of_tree (Linked all known) first parent label kids rest
       (all_linked first n kids (kids_between all known first parent label kids rest b) oks.1 (own all known first parent label kids rest b)
-      (own_there all known first parent label kids rest b) [] refl (kids_stand label.kind label.text (categories kids) (parts label kids oks.0).fit))
+      (own_there all known first parent label kids rest b) [] refl refl (kids_stand label.kind label.text (categories kids) (parts label kids oks.0).fit))
       (record {
         parent = q;
         found = at;
         front = front;
         back = numbers (roots (n + 1) rest);
         among = kids_are;
+        begins = starts;
         stands = ap (λ c. stands_in c q.label.kind) (own_known all known first parent label kids rest b) ∙ mays.0;
       })
       (all_linked (n + 1) parent rest (rest_between all known first parent label kids rest b) oks.2 q at (front ++ n ∷ [])
-      (kids_are ∙ sym (append_assoc front (n ∷ []) (numbers (roots (n + 1) rest)))) mays.1)
+      (kids_are ∙ sym (append_assoc front (n ∷ []) (numbers (roots (n + 1) rest)))) (sym (behind_last q.first front n)) mays.1)
 
 got_front : (xs ys : List Node) (n : ℕ) → n < length xs → slice_get (xs ++ ys) n ≡ slice_get xs n
 got_front [] ys n lt = absurd (omega (arith, lt))
@@ -281,9 +287,9 @@ module _ (tokens : List Token) (t : Tree) (derived : IsTreeOf tokens t) where
       let id = 0 + size t.kids in
       let oks = apart t.label t.kids none ok_here in
       let root : Node = record { id = id; label = t.label; kids = numbers (roots 0 t.kids); first = 0; parent = last } in
-      let below = all_linked all known 0 id t.kids (kids_between all known 0 last t.label t.kids none whole) oks.1 root (own_there all known 0 last t.label t.kids none whole) [] refl
+      let below = all_linked all known 0 id t.kids (kids_between all known 0 last t.label t.kids none whole) oks.1 root (own_there all known 0 last t.label t.kids none whole) [] refl refl
       (kids_stand t.label.kind t.label.text (categories t.kids) (parts t.label t.kids oks.0).fit) in
       let long = length-nodes 0 id t.kids in
       let p = subst (λ k. Linked all known k m) (zero-add n)
       (all_at (Linked all known) 0 (nodes_of 0 id t.kids) n m below (sym (got_front (nodes_of 0 id t.kids) (root ∷ []) n (omega (arith, lt, long))) ∙ e)) in
-      record { parent = p.parent; found = p.found; front = p.front; back = p.back; among = p.among; stands = p.stands }
+      record { parent = p.parent; found = p.found; front = p.front; back = p.back; among = p.among; begins = p.begins; stands = p.stands }

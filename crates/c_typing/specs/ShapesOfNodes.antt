@@ -1,5 +1,5 @@
 -- The nodes of a derived tree by their places: their shapes, their lowest nodes and their parents.
-use Rattle.std.specs.Prelude.{◌≡◌, ℕ, true, List, ◌∷◌, ◌++◌, map, Some, slice_get, get_or}
+use Rattle.std.specs.Prelude.{◌≡◌, ℕ, ◌+◌, true, List, [], ◌∷◌, ◌++◌, map, Some, slice_get, get_or}
 use Rattle.c_syntax.specs.declared.syntax.SynId.{SynId}
 use Rattle.c_syntax.specs.declared.syntax.SynNode.{SynNode}
 use Rattle.c_syntax.specs.Trees.{Tree}
@@ -26,11 +26,17 @@ pub record IsPlaced (t : Tree) (n : ℕ) (m : Node) : Type 0 where
   pub found : slice_get (nodes t) m.first ≡ Some lowest
   pub begins : begins_with (category_at t n) lowest.label.kind ≡ true
 
--- it is among the kids of its parent, which may have it
+-- the lowest node behind these kids of a node whose lowest node is `first`
+abbrev pub first_behind : ℕ → List ℕ → ℕ
+first_behind first [] = first
+first_behind first (kid ∷ kids) = first_behind (kid + 1) kids
+
+-- it is among the kids of its parent, which may have it; its nodes begin behind those of the kids before it
 pub record HasParent (t : Tree) (n : ℕ) (m : Node) : Type 0 where
   pub parent : Node
   pub found : slice_get (nodes t) m.parent ≡ Some parent
   pub front : List ℕ
   pub back : List ℕ
   pub among : parent.kids ≡ front ++ (n ∷ back)
+  pub begins : m.first ≡ first_behind parent.first front
   pub stands : stands_in (category_at t n) parent.label.kind ≡ true
