@@ -1,12 +1,12 @@
 -- What the tables of shapes say of operators, levels and rows.
-use Rattle.std.proofs.Common.{true≢false, ◌≡◌, ℕ, zero, suc, ◌+◌, ◌≤◌, Bool, true, false, ◌&&◌, ◌||◌, not, List, [], ◌∷◌, refl, sym, ap, ◌∙◌, arith, T}
+use Rattle.std.proofs.Common.{true≢false, ◌≡◌, ℕ, suc, ◌+◌, ◌≤◌, Bool, true, false, ◌&&◌, ◌||◌, not, List, [], ◌∷◌, refl, sym, arith}
 use Rattle.std.specs.Prelude.{nat_le, if◌then◌else◌}
 use Rattle.std.specs.List.{list_all}
 use Rattle.std.proofs.lemmas.Bool.Decides.{nat_tests}
 use Rattle.c_lexer.specs.declared.token.Punct.{Punct}
 use Rattle.c_lexer.specs.declared.token.Punct.TheVariants as punct
 use Rattle.c_lexer.specs.Dump.{mark_text}
-use Rattle.c_syntax.specs.Trees.{Tree, Forest, none, tree, ◌then◌, one}
+use Rattle.c_syntax.specs.Trees.{Tree, Forest, ◌then◌, one}
 use Rattle.c_grammar.specs.Vocabulary as vocabulary
 use Rattle.c_grammar.specs.Vocabulary.{is_identifier, is_type_word, is_storage_word}
 use Rattle.c_grammar.specs.Derivation.{Standing, behind_statement, is_labelled}

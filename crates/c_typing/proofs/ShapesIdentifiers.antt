@@ -1,10 +1,9 @@
 -- The identifiers of a derived tree are read by the names before them: by induction on the derivation, a case for each rule.
-use Rattle.std.proofs.Common.{◌≡◌, ℕ, Bool, true, false, not, ◌&&◌, ◌||◌, List, [], ◌∷◌, refl, sym, ap, ◌∙◌, subst, append-nil, true≢false}
+use Rattle.std.proofs.Common.{◌≡◌, Bool, true, false, not, ◌&&◌, ◌||◌, List, [], ◌∷◌, refl, sym, ap, subst, append-nil, true≢false}
 use Rattle.c_lexer.specs.declared.token.Token.{Token}
-use Rattle.c_syntax.specs.declared.kind.SynKind.TheVariants as kind
-use Rattle.c_syntax.specs.Trees.{Tree, Forest, none, tree, ◌then◌, one, two, three, plain_node, text_node}
+use Rattle.c_syntax.specs.Trees.{Tree, Forest, none, ◌then◌, one}
 use Rattle.c_grammar.specs.Vocabulary.{is_type_word, is_storage_word}
-use Rattle.c_grammar.specs.Scopes.{Names, opened, add, is_typedef_name}
+use Rattle.c_grammar.specs.Scopes.{Names, add, is_typedef_name}
 use Rattle.c_grammar.specs.Derivation as rule
 use Rattle.c_grammar.specs.Derivation.{Part, Row, Derives, Lists, IsTreeOf}
 use Rattle.c_typing.specs.Shapes as role

@@ -1,13 +1,12 @@
 -- In a tree that is derived each node has its shape: by induction on the derivation, a case for each rule.
-use Rattle.std.proofs.Common.{◌≡◌, ℕ, suc, ◌+◌, ◌≤◌, Bool, true, false, not, ◌&&◌, ◌||◌, List, [], ◌∷◌, refl, sym, ap, ◌∙◌, arith, codes}
+use Rattle.std.proofs.Common.{◌≡◌, ℕ, suc, ◌+◌, Bool, true, false, ◌||◌, List, [], ◌∷◌, refl, ap, ◌∙◌, arith}
 use Rattle.std.specs.Prelude.{if◌then◌else◌}
 use Rattle.std.specs.List.{list_all}
 use Rattle.c_lexer.specs.declared.token.Token.{Token}
 use Rattle.c_lexer.specs.Dump.{mark_text}
 use Rattle.c_syntax.specs.declared.kind.SynKind.TheVariants as kind
-use Rattle.c_syntax.specs.Trees.{Tree, Forest, none, tree, ◌then◌, one, two, three, plain_node, text_node}
-use Rattle.c_grammar.specs.Vocabulary.{is_identifier, is_type_word, is_storage_word, level_of}
-use Rattle.c_grammar.specs.Scopes.{Names, says_type, says_type_by}
+use Rattle.c_syntax.specs.Trees.{Tree, Forest, none, ◌then◌, one, two, three, plain_node}
+use Rattle.c_grammar.specs.Scopes.{Names, says_type}
 use Rattle.c_grammar.specs.Derivation as rule
 use Rattle.c_grammar.specs.Derivation.{Part, Row, Derives, Lists, Standing, may_end, is_labelled, is_lone_void, ends_open, IsTreeOf}
 use Rattle.c_typing.specs.Shapes as category

@@ -1,10 +1,9 @@
 -- The lowest node of a declarator is its name, or the place of the absent name; that of no other tree is one.
-use Rattle.std.proofs.Common.{◌≡◌, ℕ, Bool, true, false, ◌&&◌, ◌||◌, not, List, [], ◌∷◌, refl, sym, ◌∙◌, true≢false}
+use Rattle.std.proofs.Common.{◌≡◌, ℕ, Bool, true, false, ◌||◌, not, List, [], ◌∷◌, refl, sym, ◌∙◌, true≢false}
 use Rattle.std.specs.Prelude.{if◌then◌else◌}
 use Rattle.std.specs.List.{list_all}
 use Rattle.c_syntax.specs.declared.kind.SynKind.{SynKind}
 use Rattle.c_syntax.specs.declared.kind.SynKind.TheVariants as kind
-use Rattle.c_syntax.specs.declared.label.Label.{Label}
 use Rattle.c_syntax.specs.Trees.{Tree, Forest, none, tree, one}
 use Rattle.c_grammar.specs.Vocabulary.{is_type_word, is_storage_word}
 use Rattle.c_typing.specs.Shapes as category

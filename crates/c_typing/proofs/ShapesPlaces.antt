@@ -1,5 +1,5 @@
 -- The node at each place of a table is the root of a tree whose nodes have their shapes.
-use Rattle.std.proofs.Common.{◌≡◌, ℕ, suc, ◌+◌, ◌<◌, ◌≤◌, ◌⊎◌, inl, inr, true, false, ◌&&◌, Bool, List, [], ◌∷◌, ◌++◌, length, refl, sym, ap, ap₂, ◌∙◌, subst, arith, append_assoc, append-nil, length-append, true≢false}
+use Rattle.std.proofs.Common.{◌≡◌, ℕ, ◌+◌, ◌<◌, ◌≤◌, ◌⊎◌, inl, inr, true, false, ◌&&◌, Bool, List, [], ◌∷◌, ◌++◌, length, refl, sym, ap, ◌∙◌, subst, arith, append_assoc, append-nil, length-append, true≢false}
 use Rattle.std.proofs.lemmas.Bool.{cases_lt}
 use Rattle.std.proofs.Math.Nat.{eq-or-lt_of_le}
 use Rattle.c_lexer.specs.declared.token.Token.{Token}
@@ -10,7 +10,6 @@ use Rattle.c_syntax.specs.Trees.{Tree, Forest, none, tree, one}
 use Rattle.c_syntax.specs.Tables.{size, roots, nodes, node_of, table_of, StandsFor}
 use Rattle.c_syntax.proofs.TreeLaws.{length-nodes}
 use Rattle.c_syntax.proofs.TextLaws.{stand_within}
-use Rattle.c_grammar.specs.Derivation as rule
 use Rattle.c_grammar.specs.Derivation.{IsTreeOf}
 use Rattle.c_typing.specs.Shapes.{has_shape, are_shaped, IsShapedAt}
 use Rattle.c_typing.proofs.ShapesLaw.{all_shaped}

@@ -4,8 +4,8 @@ use Rattle.std.proofs.Common.{◌≡◌, map, Bool, true, false, List, [], ◌�
 use Rattle.c_lexer.specs.declared.token.IntType.TheVariants as type
 use Rattle.c_syntax.specs.declared.kind.SynKind.{SynKind}
 use Rattle.c_syntax.specs.declared.kind.SynKind.TheVariants as kind
-use Rattle.c_syntax.specs.Trees.{Tree, Forest, none, ◌then◌, one, two, three, text_node, plain_node, int_node}
-use Rattle.c_typing.specs.Shapes.{Category, unit, function, declaration, init_declarator, braces, specifiers, storage_word, typedef_name, type_specifier, member, enumerator, declarator, abstract_declarator, no_name, parameter, type_name, block, empty, statement, switch_label, expression, binary_level, category_by, category_of, is_within, are_specifiers, are_groups, kids_fit, text_fits, bytes_fit, value_fits, are_apart, has_shape, are_shaped, stands_in, lowest_kind, begins_with, categories_of, in_row, are_read_by}
+use Rattle.c_syntax.specs.Trees.{Tree, Forest, none, one, two, three, text_node, plain_node, int_node}
+use Rattle.c_typing.specs.Shapes.{Category, unit, function, declaration, init_declarator, braces, specifiers, storage_word, typedef_name, type_specifier, member, enumerator, declarator, abstract_declarator, no_name, parameter, type_name, block, empty, statement, switch_label, expression, binary_level, category_by, is_within, are_specifiers, are_groups, kids_fit, text_fits, bytes_fit, value_fits, are_apart, has_shape, are_shaped, stands_in, lowest_kind, begins_with, categories_of, in_row, are_read_by}
 use Rattle.c_grammar.specs.Scopes.{opened}
 use Rattle.c_syntax.specs.Tables.{table_of}
 

@@ -3,12 +3,12 @@
 --
 -- Each tree has a syntactic category (C99 6.1), told from its root, and where the root is a `Pointer`, an `ArrayOf` or a `Paren`
 -- from its first kid. `text_fits` and `kids_fit` are the tables, with a line for each kind; a node has its shape where its text
--- and the categories of its kids are in them.
-use Rattle.std.specs.Prelude.{◌≡◌, ℕ, suc, ◌+◌, ◌<◌, Bool, true, false, List, [], ◌∷◌, ◌++◌, map, get_or, ◌||◌, ◌&&◌, not, if◌then◌else◌, nat_le, ◌==◌, codes}
+-- and the categories of its kids are in them. `stands_in` and `begins_with` say what follows from them for parents and for the
+-- names of declarators. `are_read_by` takes the scopes of the grammar through a tree.
+use Rattle.std.specs.Prelude.{◌≡◌, ℕ, suc, ◌+◌, Bool, true, false, List, [], ◌∷◌, ◌++◌, map, get_or, ◌||◌, ◌&&◌, not, if◌then◌else◌, nat_le, ◌==◌, codes}
 use Rattle.std.specs.List.{list_all}
 use Rattle.c_syntax.specs.declared.kind.SynKind.{SynKind}
 use Rattle.c_syntax.specs.declared.kind.SynKind.TheVariants as kind
-use Rattle.c_syntax.specs.declared.label.Label.{Label}
 use Rattle.c_syntax.specs.declared.syntax.SynId.{SynId}
 use Rattle.c_syntax.specs.declared.syntax.SynNode.{SynNode}
 use Rattle.c_syntax.specs.Trees.{Tree, Forest, none, tree, one}
