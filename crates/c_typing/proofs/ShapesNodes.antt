@@ -4,7 +4,6 @@ use Rattle.std.specs.Prelude.{slice_get, get_or}
 use Rattle.std.specs.List.{list_all}
 use Rattle.c_lexer.specs.declared.token.Token.{Token}
 use Rattle.c_syntax.specs.declared.syntax.SynId.{SynId}
-use Rattle.c_syntax.specs.declared.syntax.SynNode.{SynNode}
 use Rattle.c_syntax.specs.Trees.{Tree, Forest, none, tree, one}
 use Rattle.c_syntax.specs.Tables as tables
 use Rattle.c_syntax.specs.Tables.{size, roots, node_of, table_of}
@@ -12,7 +11,7 @@ use Rattle.c_grammar.specs.Derivation.{IsTreeOf}
 use Rattle.c_typing.specs.Places.{Node, numbers, nodes_of, nodes}
 use Rattle.c_syntax.specs.declared.label.Label.{Label}
 use Rattle.c_typing.specs.ShapesOfNodes.{first_behind, as_id, in_table, IsPlaced, HasParent}
-use Rattle.c_typing.specs.Shapes.{Category, no_category, category_of, category_by, categories, categories_of, kids_fit, stands_in, are_shaped, lowest_kind, begins_with, Fits}
+use Rattle.c_typing.specs.Shapes.{Category, no_category, category_by, categories, categories_of, stands_in, are_shaped, lowest_kind, begins_with, Fits}
 use Rattle.c_typing.proofs.ShapesTable as table
 use Rattle.c_typing.proofs.ShapesTable.{listed, listed_table, fits_at, apart, parts}
 use Rattle.c_typing.proofs.ShapesParents.{split, kids_stand}
