@@ -5,3 +5,12 @@ pub mod RowsUses
 pub mod RowsTyped
 pub mod RowsUnits
 pub mod RowsAccepted
+pub mod ShapesBase
+pub mod ShapesLaw
+pub mod ShapesPlaces
+pub mod ShapesRows
+pub mod ShapesTable
+pub mod ShapesParents
+pub mod ShapesNames
+pub mod ShapesIdentifiers
+pub mod ShapesNodes

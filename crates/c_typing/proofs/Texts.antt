@@ -13,8 +13,7 @@ use Rattle.c_lexer.specs.declared.token.Punct.{Punct}
 use Rattle.c_lexer.specs.declared.token.Punct.TheVariants.{Semicolon}
 use Rattle.c_lexer.specs.Characters.{is_blank, is_digit, is_nondigit, is_word_byte}
 use Rattle.c_lexer.specs.Literals.{escape_value}
-use Rattle.c_lexer.specs.Marks.{mark_of}
-use Rattle.c_lexer.specs.Numbers.{constant_of}
+use Rattle.c_lexer.specs.Readings.{mark_of, constant_of}
 use Rattle.c_syntax.specs.declared.kind.SynKind.{SynKind}
 use Rattle.c_syntax.specs.declared.kind.SynKind.TheVariants as kind
 use Rattle.c_syntax.specs.TreeText.{kind_word}

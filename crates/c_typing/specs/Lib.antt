@@ -10,3 +10,5 @@ pub mod Declarators
 pub mod Initializers
 pub mod Statements
 pub mod Typing
+pub mod Shapes
+pub mod ShapesOfNodes

@@ -16,11 +16,28 @@
 // values, conversions, the table of operators with their operands and their code. `specs/Constants.antt`: constants.
 // `specs/Expressions.antt`, `specs/Declarators.antt`, `specs/Initializers.antt`, `specs/Statements.antt`: what these mean.
 //
+// The shapes (`specs/Shapes.antt`): which text and which kids a node of each kind has, by the syntactic categories of the
+// kids, and how the scopes of the grammar run through a tree.
+//
 // The invariant: a node has a meaning only where all its parts have one and it breaks no rule.
+//
+// The theorem, on `shapes`: in a tree that some token list derives, each node has its shape, and so has the node at each
+// place of its table. On `parents`: which nodes a node may be a kid of. On `names`: the lowest node of a declarator is its
+// name, or the place of the absent name, and that of no other tree is one, but that an `InitDecl` begins with its
+// declarator. On `identifiers`: in a derived tree a word among specifiers is a keyword or a typedef name, and a name in an
+// expression is no typedef name. On `nodes`: of the nodes by their places, each has its shape, its lowest node and its parent.
 //
 // The rows: `proofs/Rows*.antt` compute, from texts, the faults of units that break each rule and of their nearest neighbours that
 // do not, the typed form of each conversion and operator, and whole units. `proofs/Texts.antt` reads the texts. docs/TYPING.md has
 // the rules as a user meets them.
 //
+// The proofs of the laws: `proofs/ShapesLaw.antt` is the induction on the derivation, with a case for each rule, over the
+// facts of `proofs/ShapesBase.antt`; `proofs/ShapesPlaces.antt` and `proofs/ShapesTable.antt` take it to the table;
+// `proofs/ShapesRows.antt` has shapes that hold and shapes that do not.
+//
 // Source: C99 6.2 to 6.9, without what docs/TYPING.md leaves out.
 #![tactic(auto)]
+
+mod laws;
+
+pub use laws::{identifiers, names, nodes, parents, shapes};
