@@ -1,3 +1,4 @@
+pub mod OneUnit
 pub mod Texts
 pub mod RowsDeclared
 pub mod RowsExpressions

@@ -1,6 +1,6 @@
 -- Types of specs and declarators: built from the specs inwards, while the nodes of a declarator mean how it makes a type, from the
 -- name outwards. C99 6.7.1 to 6.7.7.
-use Rattle.std.specs.Prelude.{ℕ, zero, slice_get, ◌+◌, ◌-◌, ◌*◌, ◌%◌, ◌^◌, Bool, true, false, List, [], ◌∷◌, ◌++◌, ◌&&◌, ◌||◌, ◌==◌, not, nat_lt, if◌then◌else◌, Option, Some, None, length, filter, map, find, codes, unwrap_or, option_map}
+use Rattle.std.specs.Prelude.{ℕ, zero, slice_get, ◌+◌, ◌-◌, ◌*◌, ◌%◌, ◌^◌, Bool, true, false, List, [], ◌∷◌, ◌++◌, ◌&&◌, ◌||◌, ◌==◌, not, nat_lt, if◌then◌else◌, Option, Some, None, length, filter, map, find, codes, unwrap_or, option_map, flat_map, option_and_then}
 use Rattle.std.specs.List.{list_any, list_all, last_or}
 use Rattle.std.specs.Option.{is_some}
 use Rattle.std.specs.Str.{bytes_eq}
@@ -88,25 +88,20 @@ specs_place owner outer = of_member_or_type_name
 abbrev pub stand_before_function : Places → Node → Bool
 stand_before_function p specs = list_any (λ (e : Name). e.is_function && (specs_of p.nodes (node_at p.nodes e.owner)).id == specs.id) p.names
 
-abbrev pub joined : List (List CType) → List CType
-joined [] = []
-joined (ts ∷ rest) = ts ++ joined rest
-
 unfoldable pub specs : Places → List Judgement → Node → Judgement
 specs p js node =
     let owner = parent_of p.nodes node.id in
     let words = map (text_at p.nodes) (filter (λ n. is_word (kind_at p.nodes n)) node.kids) in
     let place = specs_place owner.label.kind (parent_of p.nodes owner.id).label.kind in
     given (all_of (map (λ n. spec_meaning (judgement_at js n)) node.kids)) λ types.
-    let type = said_type (filter is_type_word words) (joined types) in
+    let type = said_type (filter is_type_word words) (flat_map (λ ts. ts) types) in
     verdict (bad_type_words type node.id ++ bad_storage_class place (filter is_storage words) (stand_before_function p node) node.id)
     (a_type (unwrap_or type void))
 
 -- ---- structs and enums (6.7.2.1 to 6.7.2.3)
 
 abbrev pub tag_names : Node → Option Tag → ℕ
-tag_names node None = node.id
-tag_names node (Some e) = e.names
+tag_names node tag = unwrap_or (option_map (λ (e : Tag). e.names) tag) node.id
 
 -- the tag names what was declared as the other kind, or what has a body already
 abbrev pub tag_faults : Places → Node → Option Tag → List Fault
@@ -131,10 +126,6 @@ member_faults before (fs ∷ rest) (n ∷ ns) =
     stands_twice (has_repeated fs || list_any (λ (f : Field). field_named f.name before) fs) n ++ member_faults (before ++ fs) rest ns
 member_faults before fs ns = []
 
-abbrev pub joined_fields : List (List Field) → List Field
-joined_fields [] = []
-joined_fields (fs ∷ rest) = fs ++ joined_fields rest
-
 -- each member at its offset (6.7.2.1, 12 and 13)
 abbrev pub laid : List Field → List ℕ → List Field
 laid (f ∷ fs) (at ∷ ats) = record f { offset = at } ∷ laid fs ats
@@ -148,7 +139,7 @@ layout ls k fields =
 unfoldable pub struct_body : Places → List Judgement → Node → Judgement
 struct_body p js node =
     given (all_of (map (λ n. members_of (judgement_at js n)) node.kids)) λ fields.
-    let l = layout (layouts js) (tag_names node (tag_of p node.id)) (joined_fields fields) in
+    let l = layout (layouts js) (tag_names node (tag_of p node.id)) (flat_map (λ fs. fs) fields) in
     verdict (tag_faults p node (tag_of p node.id) ++ member_faults [] fields node.kids ++ size_fault l.measure.size node.id) (a_struct l)
 
 unfoldable pub struct_specifier : Places → List Judgement → Node → Judgement
@@ -168,11 +159,7 @@ enum_specifier p js node =
 
 -- the type that the name had when it was declared last
 abbrev pub type_before : Places → List Judgement → Name → Option CType
-type_before p js e = by (last_or None (earlier p e))
-  where
-    by : Option Name → Option CType
-    by None = None
-    by (Some a) = type_of_name js a
+type_before p js e = option_and_then (type_of_name js) (last_or None (earlier p e))
 
 abbrev pub enumerator_faults : Places → List Judgement → Node → Option Name → List Fault
 enumerator_faults p js node None = []

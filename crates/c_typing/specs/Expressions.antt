@@ -1,5 +1,5 @@
 -- What expressions mean, one production after the other. C99 6.5.
-use Rattle.std.specs.Prelude.{ℕ, zero, suc, ◌+◌, ◌^◌, ◌-◌, Bool, true, false, List, [], ◌∷◌, ◌++◌, ◌&&◌, ◌||◌, ◌==◌, not, if◌then◌else◌, Option, Some, None, length, filter, map, find, drop, sum, codes, unwrap_or, zip}
+use Rattle.std.specs.Prelude.{ℕ, zero, suc, ◌+◌, ◌^◌, ◌-◌, Bool, true, false, List, [], ◌∷◌, ◌++◌, ◌&&◌, ◌||◌, ◌==◌, not, if◌then◌else◌, Option, Some, None, length, filter, map, find, drop, sum, codes, unwrap_or, zip, option_and_then}
 use Rattle.std.specs.Option.{is_some}
 use Rattle.std.specs.Str.{bytes_eq}
 use Rattle.c_lexer.specs.declared.token.IntType.{IntType}
@@ -214,11 +214,7 @@ call_by node f xs other = verdict (not_a_function false node.id) (expression f)
 
 -- 6.5.2.3
 abbrev pub field_of : List Layout → CType → List ℕ → Option Field
-field_of ls (struct k) name = by (layout_of ls k)
-  where
-    by : Option Layout → Option Field
-    by None = None
-    by (Some l) = find (λ field. bytes_eq field.name name) l.fields
+field_of ls (struct k) name = option_and_then (λ (l : Layout). find (λ field. bytes_eq field.name name) l.fields) (layout_of ls k)
 field_of ls t name = None
 
 abbrev pub no_field : Field

@@ -1,5 +1,5 @@
 -- Initializers: each value and each pair of braces has the type that it initializes by its place. C99 6.7.8; brace elision is left out.
-use Rattle.std.specs.Prelude.{ℕ, zero, suc, ◌+◌, ◌-◌, ◌*◌, Bool, true, false, List, [], ◌∷◌, ◌++◌, ◌&&◌, ◌||◌, ◌==◌, not, nat_lt, if◌then◌else◌, Option, Some, None, length, map, slice_get, unwrap_or, option_map, option_and_then}
+use Rattle.std.specs.Prelude.{ℕ, zero, suc, ◌+◌, ◌-◌, ◌*◌, Bool, true, false, List, [], ◌∷◌, ◌++◌, ◌&&◌, ◌||◌, ◌==◌, not, nat_lt, if◌then◌else◌, Option, Some, None, length, map, slice_get, unwrap_or, option_map, option_and_then, flat_map}
 use Rattle.std.specs.Option.{is_some}
 use Rattle.std.specs.List.{range_with_len}
 use Rattle.c_syntax.specs.declared.kind.SynKind.{SynKind}
@@ -146,14 +146,6 @@ kid_part p js static t braces i = by (part_of p (layouts js) braces i t)
     by (Some u) = option_map (λ (q : Part). record q { cells = map (moved (part_offset (layouts js) t i)) q.cells })
         (part_for p js static (is_scalar t) u (kid braces i))
 
-abbrev pub cells_of : List Part → List Cell
-cells_of [] = []
-cells_of (q ∷ qs) = q.cells ++ cells_of qs
-
-abbrev pub faults_of_parts : List Part → List Fault
-faults_of_parts [] = []
-faults_of_parts (q ∷ qs) = q.faults ++ faults_of_parts qs
-
 -- how many parts an object has
 abbrev pub has_part : Places → List Layout → CType → Node → ℕ → Bool
 has_part p ls (array t n) braces i = is_some (part_of p ls braces i (array t n))
@@ -182,7 +174,7 @@ is_static_name (Some e) = is_static e.entity
 unfoldable pub braces_for : Places → List Judgement → Node → CType → Judgement
 braces_for p js node t =
     given (all_of (map (kid_part p js (is_static_name (init_around p node)) t node) (range_with_len 0 (length node.kids)))) λ parts.
-    verdict (too_many p (layouts js) t node ++ faults_of_parts parts) (initial (count_in p t node) (cells_of parts))
+    verdict (too_many p (layouts js) t node ++ flat_map (λ (q : Part). q.faults) parts) (initial (count_in p t node) (flat_map (λ (q : Part). q.cells) parts))
 
 -- those of a typedef or a function initialize nothing
 abbrev pub initializes_nothing : Places → Node → Bool

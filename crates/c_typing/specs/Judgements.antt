@@ -1,5 +1,5 @@
 -- What a node of a finished tree means, or which rules it breaks.
-use Rattle.std.specs.Prelude.{ℕ, Bool, List, [], ◌∷◌, ◌++◌, Option, Some, None, filter_map, slice_get, unwrap_or}
+use Rattle.std.specs.Prelude.{ℕ, Bool, List, [], ◌∷◌, ◌++◌, Option, Some, None, filter_map, slice_get, unwrap_or, flat_map}
 use Rattle.c_types.specs.declared.tree.Expr.{Expr}
 use Rattle.c_types.specs.declared.tree.Stmt.{Stmt}
 use Rattle.c_types.specs.declared.tree.Cell.{Cell}
@@ -182,5 +182,4 @@ faults_in (breaks_rules f fs) = f ∷ fs
 faults_in j = []
 
 abbrev pub faults_of : List Judgement → List Fault
-faults_of [] = []
-faults_of (j ∷ js) = faults_in j ++ faults_of js
+faults_of js = flat_map faults_in js

@@ -1,6 +1,6 @@
 -- What the identifiers of a unit name, and the numbers of objects, functions and locals: counts and finds over the nodes, which
 -- look at no type. C99 6.2.1 to 6.2.4, 6.7.2.3.
-use Rattle.std.specs.Prelude.{ℕ, ◌+◌, Bool, true, false, List, [], ◌∷◌, ◌++◌, ◌&&◌, ◌||◌, ◌==◌, not, nat_le, nat_lt, if◌then◌else◌, Option, Some, None, find, filter, length, position, unwrap_or, codes}
+use Rattle.std.specs.Prelude.{ℕ, ◌+◌, Bool, true, false, List, [], ◌∷◌, ◌++◌, ◌&&◌, ◌||◌, ◌==◌, not, nat_le, nat_lt, if◌then◌else◌, Option, Some, None, find, filter, length, position, unwrap_or, codes, option_map}
 use Rattle.std.specs.Option.{is_some}
 use Rattle.std.specs.Str.{bytes_eq}
 use Rattle.c_syntax.specs.declared.kind.SynKind.{SynKind}
@@ -246,13 +246,9 @@ function_number p text = position (λ f. bytes_eq (function_text p f) text) p.fu
 abbrev pub function_around : Places → ℕ → Node
 function_around p n = unwrap_or (find (λ f. holds f n) p.functions) nowhere
 
--- how many parameters a function has that is defined, named or not
+-- the parameters of a function that is defined, named or not
 abbrev pub parameters_of : Places → Node → List ℕ
-parameters_of p f = by (own_takes p.nodes f)
-  where
-    by : Option Node → List ℕ
-    by None = []
-    by (Some takes) = other_kids takes
+parameters_of p f = unwrap_or (option_map other_kids (own_takes p.nodes f)) []
 
 -- ---- locals: the parameters, then the automatic objects, each in order of appearance; hidden ones follow
 

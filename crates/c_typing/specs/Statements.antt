@@ -1,5 +1,5 @@
 -- What statements and declarations do. C99 6.7, 6.8.
-use Rattle.std.specs.Prelude.{ℕ, Bool, true, false, List, [], ◌∷◌, ◌++◌, ◌&&◌, ◌||◌, ◌==◌, nat_lt, if◌then◌else◌, Option, Some, None, map, codes, option_map}
+use Rattle.std.specs.Prelude.{ℕ, Bool, true, false, List, [], ◌∷◌, ◌++◌, ◌&&◌, ◌||◌, ◌==◌, nat_lt, if◌then◌else◌, Option, Some, None, map, codes, option_map, flat_map}
 use Rattle.std.specs.List.{list_any}
 use Rattle.std.specs.Option.{is_some}
 use Rattle.c_syntax.specs.declared.kind.SynKind.{SynKind}
@@ -30,10 +30,6 @@ as_one ss = block_of ss
 abbrev pub statement_at : List Judgement → ℕ → Option Stmt
 statement_at js n = option_map as_one (code_at js n)
 
-abbrev pub joined_code : List (List Stmt) → List Stmt
-joined_code [] = []
-joined_code (ss ∷ rest) = ss ++ joined_code rest
-
 -- ---- declarations, blocks (6.8.2)
 
 abbrev pub declarator_code : Judgement → Option (List Stmt)
@@ -47,10 +43,10 @@ declaration p js node =
     given (type_at js specs.id) λ t.
     given (all_of (map (λ n. declarator_code (judgement_at js n)) (other_kids node))) λ parts.
     means (if says p.nodes (codes "static") specs || says p.nodes (codes "extern") specs || says p.nodes (codes "typedef") specs
-    then performs [] else does (block_of (joined_code parts)))
+    then performs [] else does (block_of (flat_map (λ ss. ss) parts)))
 
 unfoldable pub block_node : List Judgement → Node → Judgement
-block_node js node = given (all_of (map (code_at js) node.kids)) λ parts. means (does (block_of (joined_code parts)))
+block_node js node = given (all_of (map (code_at js) node.kids)) λ parts. means (does (block_of (flat_map (λ ss. ss) parts)))
 
 -- ---- expression statements, conditions (6.8.3 to 6.8.5)
 
