@@ -6,6 +6,8 @@ pub mod RowsUses
 pub mod RowsTyped
 pub mod RowsUnits
 pub mod RowsAccepted
+pub mod RowsFaults
+pub mod RowsForms
 pub mod ShapesBase
 pub mod ShapesLaw
 pub mod ShapesPlaces

@@ -1,6 +1,6 @@
 -- Types of specs and declarators: built from the specs inwards, while the nodes of a declarator mean how it makes a type, from the
 -- name outwards. C99 6.7.1 to 6.7.7.
-use Rattle.std.specs.Prelude.{ℕ, zero, slice_get, ◌+◌, ◌-◌, ◌*◌, ◌%◌, ◌^◌, Bool, true, false, List, [], ◌∷◌, ◌++◌, ◌&&◌, ◌||◌, ◌==◌, not, nat_lt, if◌then◌else◌, Option, Some, None, length, filter, map, find, codes, unwrap_or, option_map, flat_map, option_and_then}
+use Rattle.std.specs.Prelude.{ℕ, zero, slice_get, ◌+◌, ◌-◌, ◌*◌, ◌%◌, ◌^◌, Bool, true, false, List, [], ◌∷◌, ◌++◌, ◌&&◌, ◌||◌, ◌==◌, not, if◌then◌else◌, Option, Some, None, length, filter, map, find, codes, unwrap_or, option_map, flat_map, option_and_then, take, position, filter_map}
 use Rattle.std.specs.List.{list_any, list_all, last_or}
 use Rattle.std.specs.Option.{is_some}
 use Rattle.std.specs.Str.{bytes_eq}
@@ -12,7 +12,7 @@ use Rattle.c_types.specs.Sizes.{struct_measure}
 use Rattle.c_typing.specs.Types.{bool, char, schar, uchar, short, ushort, int, uint, long, ulong, CType, void, integer, pointer, array, unsized, struct, function, types_of, Field, Layout, measure, no_measure, size_of, is_unsized}
 use Rattle.c_typing.specs.Places.{Node, node_at, kind_at, text_at, parent_of, kid, has_kid, other_kids, index_in, is_word, is_whole, is_next_to_name, whole_declarator, own_takes, specs_of, is_init, is_param}
 use Rattle.c_typing.specs.Names.{Places, Name, Entity, typedef_name, function_name, static_object, automatic, parameter, enumerator, is_typedef, denoted, name_of, Tag, tag_of, earlier}
-use Rattle.c_typing.specs.Judgements.{Constant, number, Typing, Step, to_pointer, of_array, of_unsized, of_parameter, of_function, PlacedStep, Fault, itself, a_type, a_struct, members, enumerates, steps, declares, Judgement, means, waits, verdict, given, all_of, judgement_at, typing_at, type_at, steps_at, layouts}
+use Rattle.c_typing.specs.Judgements.{Constant, number, Typing, Step, to_pointer, of_array, of_unsized, of_parameter, of_function, PlacedStep, Fault, itself, a_type, a_struct, members, enumerates, steps, declares, Judgement, means, waits, verdict, given, all_of, judgement_at, typing_at, type_at, steps_at, layouts, besides}
 use Rattle.c_typing.specs.Expressions.{type_of_name, word_of_enumerator}
 use Rattle.c_typing.specs.Rules.{bad_type_words, SpecsPlace, in_unit, of_definition, in_block, in_for, of_parameter, of_member_or_type_name, bad_storage_class, declared_twice, stands_twice, unknown_name, incomplete_type, absent_length, bad_array_length, not_constant, out_of_range, no_int, broken_if, local_array_or_struct, not_a_function, many_parameters, bad_parameter, bad_result, bad_main, bad_library_name, size_fault}
 
@@ -84,30 +84,32 @@ specs_place kind.Declaration kind.For = in_for
 specs_place kind.Declaration outer = in_block
 specs_place owner outer = of_member_or_type_name
 
--- the specs stand before a name of function type
-abbrev pub stand_before_function : Places → Node → Bool
-stand_before_function p specs = list_any (λ (e : Name). e.is_function && (specs_of p.nodes (node_at p.nodes e.owner)).id == specs.id) p.names
+abbrev pub place_of_specs : Places → Node → SpecsPlace
+place_of_specs p node =
+    let owner = parent_of p.nodes node.id in specs_place owner.label.kind (parent_of p.nodes owner.id).label.kind
 
 unfoldable pub specs : Places → List Judgement → Node → Judgement
 specs p js node =
-    let owner = parent_of p.nodes node.id in
     let words = map (text_at p.nodes) (filter (λ n. is_word (kind_at p.nodes n)) node.kids) in
-    let place = specs_place owner.label.kind (parent_of p.nodes owner.id).label.kind in
+    besides (bad_storage_class (place_of_specs p node) (filter is_storage words) node.id) (
     given (all_of (map (λ n. spec_meaning (judgement_at js n)) node.kids)) λ types.
     let type = said_type (filter is_type_word words) (flat_map (λ ts. ts) types) in
-    verdict (bad_type_words type node.id ++ bad_storage_class place (filter is_storage words) (stand_before_function p node) node.id)
-    (a_type (unwrap_or type void))
+    verdict (bad_type_words type node.id) (a_type (unwrap_or type void)))
 
 -- ---- structs and enums (6.7.2.1 to 6.7.2.3)
 
 abbrev pub tag_names : Node → Option Tag → ℕ
 tag_names node tag = unwrap_or (option_map (λ (e : Tag). e.names) tag) node.id
 
+-- the tags before this one, by their first tokens
+abbrev pub tags_before : Places → Tag → List Tag
+tags_before p e = take (unwrap_or (position (λ (a : Tag). a.node == e.node) p.tags) 0) p.tags
+
 -- the tag names what was declared as the other kind, or what has a body already
 abbrev pub tag_faults : Places → Node → Option Tag → List Fault
 tag_faults p node None = []
 tag_faults p node (Some e) =
-    stands_twice (e.clashes || (e.has_body && list_any (λ (a : Tag). a.names == e.names && a.has_body && nat_lt a.node e.node) p.tags)) node.id
+    stands_twice (e.clashes || (e.has_body && list_any (λ (a : Tag). a.names == e.names && a.has_body) (tags_before p e))) node.id
 
 abbrev pub members_of : Judgement → Option (List Field)
 members_of (means (members fs)) = Some fs
@@ -138,9 +140,11 @@ layout ls k fields =
 
 unfoldable pub struct_body : Places → List Judgement → Node → Judgement
 struct_body p js node =
-    given (all_of (map (λ n. members_of (judgement_at js n)) node.kids)) λ fields.
+    let parts = map (λ n. members_of (judgement_at js n)) node.kids in
+    besides (tag_faults p node (tag_of p node.id) ++ member_faults [] (map (λ part. unwrap_or part []) parts) node.kids) (
+    given (all_of parts) λ fields.
     let l = layout (layouts js) (tag_names node (tag_of p node.id)) (flat_map (λ fs. fs) fields) in
-    verdict (tag_faults p node (tag_of p node.id) ++ member_faults [] fields node.kids ++ size_fault l.measure.size node.id) (a_struct l)
+    verdict (size_fault l.measure.size node.id) (a_struct l))
 
 unfoldable pub struct_specifier : Places → List Judgement → Node → Judgement
 struct_specifier p js node =
@@ -154,8 +158,8 @@ is_known_enum node (Some e) = has_kid node 0 || not e.is_new
 
 unfoldable pub enum_specifier : Places → List Judgement → Node → Judgement
 enum_specifier p js node =
-    given (all_of (map (λ n. word_of_enumerator (judgement_at js n)) node.kids)) λ values.
-    verdict (unknown_name (is_known_enum node (tag_of p node.id)) node.id ++ tag_faults p node (tag_of p node.id)) (a_type (integer int))
+    besides (unknown_name (is_known_enum node (tag_of p node.id)) node.id ++ tag_faults p node (tag_of p node.id)) (
+    given (all_of (map (λ n. word_of_enumerator (judgement_at js n)) node.kids)) λ values. means (a_type (integer int)))
 
 -- the type that the name had when it was declared last
 abbrev pub type_before : Places → List Judgement → Name → Option CType
@@ -311,12 +315,10 @@ array_declarator p js node =
 
 unfoldable pub function_declarator : Places → List Judgement → Node → Judgement
 function_declarator p js node =
+    let parts = map (type_at js) (other_kids node) in
+    besides (many_parameters (length parts) node.id ++ bad_parameter (filter_map (λ part. part) parts) node.id) (
     given (steps_at js (kid node 0)) λ ss.
-    given (all_of (map (type_at js) (other_kids node))) λ types. by ss types (many_parameters types node.id ++ bad_parameter types node.id)
-  where
-    by : List PlacedStep → List CType → List Fault → Judgement
-    by ss types [] = declarator p js node (with_step ss node (of_function (types_of types)))
-    by ss types faults = verdict faults (steps ss)
+    given (all_of parts) λ types. declarator p js node (with_step ss node (of_function (types_of types))))
 
 -- ---- members, parameters, names of types
 

@@ -12,11 +12,11 @@ use Rattle.c_types.specs.declared.tree.Expr.{Expr}
 use Rattle.c_types.specs.Forms.{const, address, local, set_local, load, store, binary, both, either, choose, seq, call, get_char, put_char, copy, expr_row, length_of}
 use Rattle.c_typing.specs.Types.{IntegerType, char, int, uint, long, ulong, CType, void, integer, pointer, array, struct, function, promoted, common, is_integer, is_array, is_scalar, integer_of, target_of, listed, Field, Layout, layout_of, has_size, size_of, align_of}
 use Rattle.c_typing.specs.Places.{Node, kid, other_kids, is_string, parent_of}
-use Rattle.c_typing.specs.Names.{Places, Name, Entity, typedef_name, function_name, static_object, enumerator, object_number, objects_of, function_number, function_around, named_locals, local_number, is_defined_object}
-use Rattle.c_typing.specs.Judgements.{Callee, reads_input, writes_output, calls, Form, in_local, in_memory, temporary, callee, Constant, no_constant, number, place_at, Typing, Fault, Meaning, enumerates, expresses, fills_array, Judgement, means, waits, verdict, given, judgement_at, type_at, layouts, hidden_in, meaning_of}
+use Rattle.c_typing.specs.Names.{Places, Name, Entity, typedef_name, function_name, static_object, enumerator, object_number, objects_of, function_number, function_around, named_locals, local_number}
+use Rattle.c_typing.specs.Judgements.{Callee, reads_input, writes_output, calls, Form, in_local, in_memory, temporary, callee, Constant, no_constant, number, place_at, Typing, Fault, Meaning, enumerates, expresses, fills_array, Judgement, means, waits, verdict, given, judgement_at, type_at, layouts, hidden_in, meaning_of, besides, all_of, typing_at}
 use Rattle.c_typing.specs.Conversions.{valued, value_of, result, access_of, converted_to, converted_code, is_castable, Class, additive, subtractive, shift, and_then, or_else, Operator, operator_of, result_type, choice_type, operator_code, scaled, signs}
 use Rattle.c_typing.specs.Constants.{operated, chosen_constant, binary_constant, cast_constant, part_at, element_at, address_constant}
-use Rattle.c_typing.specs.Rules.{unknown_name, incomplete_type, no_such_member, address_of_local, no_lvalue, not_assignable, bad_operand, bad_conversion, wrong_number, not_a_function, no_definition, function_as_value, big_struct, is_getchar, is_putchar}
+use Rattle.c_typing.specs.Rules.{unknown_name, incomplete_type, no_such_member, address_of_local, no_lvalue, not_assignable, bad_operand, bad_conversion, wrong_number, not_a_function, function_as_value, big_struct, is_getchar, is_putchar}
 
 -- ---- hidden locals: in order of the nodes that take them, behind the named ones of the function
 
@@ -90,11 +90,10 @@ unfoldable pub variable_by : Places → List Judgement → Node → Name → Ent
 variable_by p js node e typedef_name = waits
 variable_by p js node e enumerator = given (word_of_enumerator (judgement_at js e.node)) λ w. means (expression (number_of_type int w))
 variable_by p js node e function_name = given (type_of_name js e) λ t.
-    verdict (function_as_value (is_called p (length p.nodes) node.id) node.id
-    ++ no_definition (is_getchar e.text || is_putchar e.text || is_some (function_number p e.text)) node.id)
+    verdict (function_as_value (is_called p (length p.nodes) node.id) node.id)
     (expression (record { type = t; form = callee (callee_of p e.text); code = const 0; constant = no_constant }))
 variable_by p js node e static_object = given (type_of_name js e) λ t.
-    verdict (no_definition (is_defined_object p e) node.id) (expression (object_typing t (object_number p e)))
+    means (expression (object_typing t (object_number p e)))
 variable_by p js node e local_entity = given (type_of_name js e) λ t. means (expression (local_typing t (local_number p e)))
 
 unfoldable pub variable : Places → List Judgement → Node → Option Name → Judgement
@@ -103,7 +102,7 @@ variable p js node (Some e) = variable_by p js node e e.entity
 
 -- ---- postfix expressions (6.5.2)
 
--- an increment or decrement reads and writes an lvalue: what it writes is made of what it reads
+-- a compound assignment, an increment or a decrement reads and writes an lvalue: what it writes is made of what it reads
 abbrev pub written : ℕ → Typing → (Expr → Expr) → Form → Expr
 written h x new (in_local k) = set_local k (new (local k))
 written h x new f = seq (set_local h x.code) (store (access_of x.type) (local h) (new (load (access_of x.type) (local h))))
@@ -201,16 +200,17 @@ call_code reads_input es = get_char
 call_code writes_output es = put_char (first_or es)
 call_code (calls f) es = call f (length_of es) (expr_row es)
 
-unfoldable pub called : Node → Callee → CType → List Typing → Judgement
-called node c (function r ps) xs =
+unfoldable pub called : List Judgement → Node → Callee → CType → Judgement
+called js node c (function r ps) =
+    besides (wrong_number (length (listed ps)) (length (other_kids node)) node.id) (
+    given (all_of (map (typing_at js) (other_kids node))) λ xs.
     let args = arguments (listed ps) (map value_of xs) (other_kids node) in
-    verdict (wrong_number (length (listed ps)) (length xs) node.id ++ argument_faults args)
-    (expression (result r (call_code c (map passed args)) no_constant))
-called node c t xs = waits
+    verdict (argument_faults args) (expression (result r (call_code c (map passed args)) no_constant)))
+called js node c t = waits
 
-unfoldable pub call_by : Node → Typing → List Typing → Form → Judgement
-call_by node f xs (callee c) = called node c f.type xs
-call_by node f xs other = verdict (not_a_function false node.id) (expression f)
+unfoldable pub call_by : List Judgement → Node → Typing → Form → Judgement
+call_by js node f (callee c) = called js node c f.type
+call_by js node f other = verdict (not_a_function false node.id) (expression f)
 
 -- 6.5.2.3
 abbrev pub field_of : List Layout → CType → List ℕ → Option Field
@@ -329,7 +329,7 @@ binary_operator js node x y = given (operator_of node.label.text) (binary_by js 
 unfoldable pub conditional : List Judgement → Node → Typing → Typing → Typing → Judgement
 conditional js node c x y =
     let type = choice_type (layouts js) x y in
-    verdict (bad_operand (is_scalar c.type && is_some type) node.id)
+    verdict (bad_operand (is_some type) node.id)
     (expression (result (unwrap_or type x.type) (choose c.code x.code y.code) (chosen_constant c.constant x.constant y.constant)))
 
 unfoldable pub comma : Typing → Typing → Judgement

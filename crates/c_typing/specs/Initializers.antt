@@ -12,7 +12,7 @@ use Rattle.c_types.specs.Forms.{set_local, drop_expr, unset}
 use Rattle.c_typing.specs.Types.{CType, array, unsized, struct, Field, Layout, layout_of, size_of, is_text_array, is_array, is_struct, is_scalar, is_unsized}
 use Rattle.c_typing.specs.Places.{Node, node_at, kind_at, parent_of, kid, has_kid, index_in, is_braces, is_string, is_init, next_to_name, nowhere, around}
 use Rattle.c_typing.specs.Names.{Places, Name, Entity, static_object, automatic, is_static, name_of, local_number}
-use Rattle.c_typing.specs.Judgements.{Constant, number, address_of, Typing, Fault, fills_array, initial, initialized, Judgement, means, verdict, given, all_of, judgement_at, typing_at, type_at, layouts}
+use Rattle.c_typing.specs.Judgements.{Constant, number, address_of, Typing, Fault, fills_array, initial, initialized, Judgement, means, verdict, given, all_of, judgement_at, typing_at, type_at, layouts, besides}
 use Rattle.c_typing.specs.Conversions.{value_of, converted_to, converted_word}
 use Rattle.c_typing.specs.Rules.{bad_conversion, not_constant_for, out_of_range, bad_initializer, declared_twice, size_fault, absent_length}
 use Rattle.c_typing.specs.Expressions.{literal, expression}
@@ -173,8 +173,9 @@ is_static_name (Some e) = is_static e.entity
 
 unfoldable pub braces_for : Places → List Judgement → Node → CType → Judgement
 braces_for p js node t =
+    besides (too_many p (layouts js) t node) (
     given (all_of (map (kid_part p js (is_static_name (init_around p node)) t node) (range_with_len 0 (length node.kids)))) λ parts.
-    verdict (too_many p (layouts js) t node ++ flat_map (λ (q : Part). q.faults) parts) (initial (count_in p t node) (flat_map (λ (q : Part). q.cells) parts))
+    verdict (flat_map (λ (q : Part). q.faults) parts) (initial (count_in p t node) (flat_map (λ (q : Part). q.cells) parts)))
 
 -- those of a typedef or a function initialize nothing
 abbrev pub initializes_nothing : Places → Node → Bool

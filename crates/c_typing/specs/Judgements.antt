@@ -111,6 +111,12 @@ abbrev pub verdict : List Fault → Meaning → Judgement
 verdict [] m = means m
 verdict (f ∷ fs) m = breaks_rules f fs
 
+-- what a part means or breaks, where these rules are broken too
+abbrev pub besides : List Fault → Judgement → Judgement
+besides [] j = j
+besides (f ∷ fs) (breaks_rules g gs) = breaks_rules f (fs ++ g ∷ gs)
+besides (f ∷ fs) j = breaks_rules f fs
+
 abbrev pub given : {A : Type 0} → Option A → (A → Judgement) → Judgement
 given None f = waits
 given (Some a) f = f a

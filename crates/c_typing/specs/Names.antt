@@ -213,7 +213,7 @@ is_again a b = bytes_eq a.text b.text && a.scope.owner == b.scope.owner
 abbrev pub earlier : Places → Name → List Name
 earlier p e = filter (λ a. is_again a e && nat_lt a.behind e.behind) p.names
 
--- a declaration has an initializer; a function has a body (6.7.8, 6.9.1)
+-- a declaration has an initializer, or a function a body (6.7.8, 6.9.1); of a parameter or an enumerator it says nothing
 abbrev pub is_initialized : Places → Name → Bool
 is_initialized p e = has_kid (node_at p.nodes e.owner) 1
 

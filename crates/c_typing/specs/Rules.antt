@@ -1,11 +1,11 @@
 -- The rules that a unit has to keep, one definition a rule: the faults of a node, where it breaks the rule. Over each stand its
 -- number, its text and its section of C99; docs/TYPING.md has examples.
-use Rattle.std.specs.Prelude.{ℕ, ◌^◌, Bool, true, false, List, [], ◌∷◌, ◌&&◌, ◌||◌, ◌==◌, not, nat_lt, nat_le, if◌then◌else◌, Option, Some, None, length, codes}
+use Rattle.std.specs.Prelude.{ℕ, ◌^◌, Bool, true, false, List, [], ◌∷◌, ◌&&◌, ◌||◌, ◌==◌, not, nat_lt, nat_le, if◌then◌else◌, Option, Some, None, length, codes, min, ◌-◌}
 use Rattle.std.specs.List.{list_any, list_all, last_or}
 use Rattle.std.specs.Option.{is_some}
 use Rattle.std.specs.Str.{bytes_eq}
 use Rattle.c_types.specs.declared.kind.TheConstants.{MAX_SIZE}
-use Rattle.c_typing.specs.Types.{CType, integer, pointer, unsized, function, int, same, is_struct, is_array, is_function, integer_of, element_of, traits_of, types_of, Field, Layout, has_size, size_of}
+use Rattle.c_typing.specs.Types.{CType, integer, pointer, unsized, function, int, same, is_struct, is_array, is_function, integer_of, element_of, traits_of, types_of, Field, Layout, has_size, size_of, IntegerType}
 use Rattle.c_typing.specs.Places.{is_file_scope}
 use Rattle.c_typing.specs.Names.{Places, Name, Entity, function_name, is_static, is_initialized, earlier}
 use Rattle.c_typing.specs.Judgements.{Fault, rule, too_big, Form, in_local, in_memory, Constant, undefined, number, Typing}
@@ -40,10 +40,13 @@ is_inside_function in_block = true
 is_inside_function in_for = true
 is_inside_function place = false
 
--- rule 2, `bad storage class`: two storage words, one that does not fit its place, or a function declared in a block (6.7.1, 2 and 5)
-abbrev pub bad_storage_class : SpecsPlace → List (List ℕ) → Bool → ℕ → List Fault
-bad_storage_class place words declares_function specs =
-    broken_if (nat_lt 1 (length words) || not (list_all (is_one_of (fitting place)) words) || (declares_function && is_inside_function place)) 2 specs
+-- rule 2, `bad storage class`: two storage words, or one that does not fit its place (6.7.1, 2)
+abbrev pub bad_storage_class : SpecsPlace → List (List ℕ) → ℕ → List Fault
+bad_storage_class place words specs = broken_if (nat_lt 1 (length words) || not (list_all (is_one_of (fitting place)) words)) 2 specs
+
+-- and a function declared in a block (6.7.1, 5; this profile)
+abbrev pub function_in_block : SpecsPlace → Bool → ℕ → List Fault
+function_in_block place declares_function specs = broken_if (declares_function && is_inside_function place) 2 specs
 
 abbrev pub are_functions : Entity → Entity → Bool
 are_functions function_name function_name = true
@@ -81,7 +84,7 @@ stands_twice twice n = broken_if twice 3 n
 abbrev pub unknown_name : Bool → ℕ → List Fault
 unknown_name known n = broken_if (not known) 4 n
 
--- rule 5, `incomplete type`: of an object, a member, an element, or what is dereferenced or measured (6.7, 7; 6.7.2.1, 2; 6.7.5.2, 1; 6.5.3.4, 1)
+-- rule 5, `incomplete type`: of an object, a member, an element, or what is dereferenced or measured (6.7, 7; 6.7.2.1, 2; 6.7.5.2, 1; 6.7.5.3, 4; 6.5.3.4, 1)
 abbrev pub incomplete_type : List Layout → CType → ℕ → List Fault
 incomplete_type ls t n = broken_if (not (has_size ls t)) 5 n
 
@@ -109,15 +112,18 @@ is_constant (number w) = true
 is_constant (undefined k) = true
 is_constant c = false
 
--- rule 8, `not constant`: an enumerator, an array length or a case that is no integer constant (6.6; 6.7.2.2, 2; 6.8.4.2, 3)
+-- rule 8, `not constant`: an enumerator, an array length or a case that is no integer constant (6.6; 6.7.2.2, 2; 6.7.5.2, 1; 6.8.4.2, 3)
 abbrev pub not_constant : Constant → ℕ → List Fault
 not_constant c n = broken_if (not (is_constant c)) 8 n
 
--- a static initializer is of an integer, an integer constant, and of a pointer a null pointer or an address constant (6.6, 9; 6.7.8, 4)
+-- a static initializer of an integer is an integer constant, of a pointer a null pointer or an address constant; a `_Bool` may have a
+-- null pointer (6.6, 9; 6.7.8, 4)
 abbrev pub is_constant_for : CType → Constant → Bool
 is_constant_for (pointer t) Constant.null_pointer = true
 is_constant_for (pointer t) Constant.zero_pointer = true
 is_constant_for (pointer t) (Constant.address_of o a) = true
+is_constant_for (integer IntegerType.bool) Constant.null_pointer = true
+is_constant_for (integer IntegerType.bool) Constant.zero_pointer = true
 is_constant_for (pointer t) (Constant.undefined_address k) = true
 is_constant_for t c = is_constant c
 
@@ -161,7 +167,8 @@ no_lvalue f n = broken_if (not (is_lvalue f)) 12 n
 abbrev pub not_assignable : Typing → ℕ → List Fault
 not_assignable x n = broken_if (not (is_lvalue x.form) || is_array x.type) 12 n
 
--- rule 13, `bad operand`: operands of other types than the operator's, or a condition that is not scalar (6.5.2.1 to 6.5.16; 6.8.4, 6.8.5)
+-- rule 13, `bad operand`: operands of other types than the operator's, a void value among them, a condition that is not scalar, or
+-- the expression of a `switch` that is no integer (6.3.2.2; 6.5.2.1 to 6.5.16; 6.8.4.1, 1; 6.8.4.2, 1; 6.8.5, 2)
 abbrev pub bad_operand : Bool → ℕ → List Fault
 bad_operand allowed n = broken_if (not allowed) 13 n
 
@@ -177,7 +184,7 @@ wrong_number parameters arguments call = broken_if (not (parameters == arguments
 abbrev pub not_a_function : Bool → ℕ → List Fault
 not_a_function is_one n = broken_if (not is_one) 16 n
 
--- rule 17, `no definition`: of a function or object that is used; `getchar` and `putchar` have none (6.9, 5)
+-- rule 17, `no definition`: of a function or object that is used; `getchar` and `putchar` have none (6.9, 3 and 5)
 abbrev pub no_definition : Bool → ℕ → List Fault
 no_definition defined n = broken_if (not defined) 17 n
 
@@ -191,8 +198,8 @@ abbrev pub outside_a_loop : Bool → ℕ → List Fault
 outside_a_loop inside n = broken_if (not inside) 19 n
 
 -- rule 20, `more than 8 parameters` (this profile)
-abbrev pub many_parameters : List CType → ℕ → List Fault
-many_parameters types takes = broken_if (nat_lt 8 (length types)) 20 takes
+abbrev pub many_parameters : ℕ → ℕ → List Fault
+many_parameters count takes = broken_if (nat_lt 8 count) 20 takes
 
 -- rule 21, `bad parameter or result`: a struct or function as parameter (this profile), a struct, array or function as result (6.7.5.3, 1)
 abbrev pub bad_parameter : List CType → ℕ → List Fault
@@ -227,7 +234,7 @@ abbrev pub bad_library_name : List ℕ → Bool → CType → ℕ → List Fault
 bad_library_name text declares_function t n =
     broken_if ((is_getchar text || is_putchar text) && not (declares_function && is_library_name text t)) 23 n
 
--- rule 24, `bad initializer`: too many values, a string that is longer than its array and not by its zero alone, an aggregate without braces, a scalar in two pairs of braces, or of what is no object (6.7.8, 2, 11, 14 and 16)
+-- rule 24, `bad initializer`: too many values, a string that is longer than its array and not by its zero alone, an aggregate without braces, a scalar in two pairs of braces, or of what is no object (6.7.8, 2, 3, 11, 14 and 16)
 abbrev pub bad_initializer : Bool → ℕ → List Fault
 bad_initializer bad n = broken_if bad 24 n
 
@@ -243,6 +250,6 @@ case_twice twice n = broken_if twice 26 n
 abbrev pub big_struct : List Layout → CType → ℕ → List Fault
 big_struct ls t assign = broken_if (is_struct t && nat_lt 1024 (size_of ls t)) 27 assign
 
--- a type, or the end of an object, is above the limit (5.2.4.1)
+-- a type, or the end of an object, is above the limit (5.2.4.1); a size that no `u64` has is told as the greatest one
 abbrev pub size_fault : ℕ → ℕ → List Fault
-size_fault size n = if nat_lt MAX_SIZE size then too_big n size ∷ [] else []
+size_fault size n = if nat_lt MAX_SIZE size then too_big n (min size (2 ^ 64 - 1)) ∷ [] else []

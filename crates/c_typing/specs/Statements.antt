@@ -11,7 +11,7 @@ use Rattle.c_types.specs.Forms.{block, drop_expr, return_with, if_else, loop, do
 use Rattle.c_typing.specs.Types.{CType, void, function, is_scalar, is_integer}
 use Rattle.c_typing.specs.Places.{Node, node_at, kind_at, parent_of, kid, has_kid, other_kids, around, is_loop, is_switch, says}
 use Rattle.c_typing.specs.Names.{Places, function_around}
-use Rattle.c_typing.specs.Judgements.{Constant, number, Typing, Fault, Meaning, performs, labels, initialized, Judgement, means, verdict, given, all_of, judgement_at, typing_at, type_at, code_at}
+use Rattle.c_typing.specs.Judgements.{Constant, number, Typing, Fault, Meaning, performs, labels, initialized, Judgement, means, verdict, given, all_of, judgement_at, typing_at, type_at, code_at, besides}
 use Rattle.c_typing.specs.Conversions.{value_of, converted_to}
 use Rattle.c_typing.specs.Rules.{bad_operand, bad_conversion, bad_return, outside_a_loop, not_constant, out_of_range, case_twice}
 use Rattle.c_typing.specs.Declarators.{word_in}
@@ -62,20 +62,20 @@ condition_faults v n = bad_operand (is_scalar v.type) n
 
 unfoldable pub if_statement : List Judgement → Node → Judgement
 if_statement js node =
-    given (typing_at js (kid node 0)) λ x.
+    given (typing_at js (kid node 0)) λ x. besides (condition_faults (value_of x) node.id) (
     given (statement_at js (kid node 1)) λ a.
     given (if has_kid node 2 then statement_at js (kid node 2) else Some empty_statement) λ b.
-    verdict (condition_faults (value_of x) node.id) (does (if_else (value_of x).code a b))
+    means (does (if_else (value_of x).code a b)))
 
 unfoldable pub while_statement : List Judgement → Node → Judgement
 while_statement js node =
-    given (typing_at js (kid node 0)) λ x. given (statement_at js (kid node 1)) λ body.
-    verdict (condition_faults (value_of x) node.id) (does (loop (Some (value_of x).code) None body))
+    given (typing_at js (kid node 0)) λ x. besides (condition_faults (value_of x) node.id) (
+    given (statement_at js (kid node 1)) λ body. means (does (loop (Some (value_of x).code) None body)))
 
 unfoldable pub do_statement : List Judgement → Node → Judgement
 do_statement js node =
-    given (statement_at js (kid node 0)) λ body. given (typing_at js (kid node 1)) λ x.
-    verdict (condition_faults (value_of x) node.id) (does (do_loop body (value_of x).code))
+    given (typing_at js (kid node 1)) λ x. besides (condition_faults (value_of x) node.id) (
+    given (statement_at js (kid node 0)) λ body. means (does (do_loop body (value_of x).code)))
 
 -- a part of `for`: an expression, or nothing
 abbrev pub part_by : List Judgement → ℕ → SynKind → Option (Option Typing)
@@ -100,11 +100,11 @@ test_faults (Some v) n = condition_faults v n
 
 unfoldable pub for_statement : Places → List Judgement → Node → Judgement
 for_statement p js node =
+    given (for_part p js (kid node 1)) λ test. besides (test_faults test node.id) (
     given (first_by js (kid node 0) (kind_at p.nodes (kid node 0))) λ first.
-    given (for_part p js (kid node 1)) λ test.
     given (for_part p js (kid node 2)) λ step.
     given (statement_at js (kid node 3)) λ body.
-    verdict (test_faults test node.id) (does (block_of (first ∷ loop (code_in test) (code_in step) body ∷ [])))
+    means (does (block_of (first ∷ loop (code_in test) (code_in step) body ∷ []))))
 
 -- ---- jumps (6.8.6)
 
@@ -121,7 +121,7 @@ abbrev pub result_type_of : CType → CType
 result_type_of (function r ps) = r
 result_type_of t = t
 
--- a value for a function that gives none breaks one rule, and so does one of another type
+-- a value in a void function breaks rule 18, also a void value; in another function one of another type breaks rule 14
 abbrev pub return_faults : CType → Typing → Node → List Fault
 return_faults void v node = bad_return true void node.id
 return_faults t v node = bad_conversion t v (kid node 0)
@@ -218,7 +218,7 @@ groups_of (i ∷ rest) = with_item i (groups_of rest)
 
 unfoldable pub switch_statement : List Judgement → Node → Judgement
 switch_statement js node =
-    given (typing_at js (kid node 0)) λ x.
+    given (typing_at js (kid node 0)) λ x. besides (bad_operand (is_integer (value_of x).type) node.id) (
     given (all_of (map (item_at js) (other_kids node))) λ items.
     let groups = (groups_of items).groups in
-    verdict (bad_operand (is_integer (value_of x).type) node.id) (does (switch (value_of x).code (length_of groups) (group_row groups)))
+    means (does (switch (value_of x).code (length_of groups) (group_row groups))))

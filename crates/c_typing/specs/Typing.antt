@@ -1,6 +1,7 @@
 -- Typing: what each node of a tree means, the faults of all nodes, and the typed unit.
-use Rattle.std.specs.Prelude.{◌≡◌, ℕ, ◌+◌, ◌≤◌, List, [], ◌∷◌, ◌++◌, not, Option, Some, None, length, map, filter, filter_map, flat_map, drop, sum, zip, codes, unwrap_or, Contains}
+use Rattle.std.specs.Prelude.{true, ◌≡◌, ℕ, ◌+◌, ◌≤◌, List, [], ◌∷◌, ◌++◌, not, Option, Some, None, length, map, filter, filter_map, flat_map, drop, sum, zip, codes, unwrap_or, Contains, Bool, ◌||◌, ◌&&◌, ◌==◌}
 use Rattle.std.specs.Option.{is_some}
+use Rattle.std.specs.List.{list_any}
 use Rattle.c_lexer.specs.declared.token.Token.{Token}
 use Rattle.c_lexer.specs.Tokens.{HasTokens}
 use Rattle.c_syntax.specs.declared.kind.SynKind.{SynKind}
@@ -14,14 +15,14 @@ use Rattle.c_types.specs.declared.tree.Cell.{Cell}
 use Rattle.c_types.specs.declared.tree.Unit.{Unit as Whole}
 use Rattle.c_types.specs.InOrder.{offsets}
 use Rattle.c_types.specs.Placing.{measures_of}
-use Rattle.c_typing.specs.Types.{int, void, is_void, size_of, align_of}
-use Rattle.c_typing.specs.Places.{Node, kid, other_kids}
-use Rattle.c_typing.specs.Names.{Places, places, Name, denoted, is_again, objects_of, function_number, function_text, parameters_of, automatics_in}
-use Rattle.c_typing.specs.Judgements.{Typing, Fault, rule, too_big, itself, initialized, defines, Judgement, means, verdict, given, all_of, judgement_at, typing_at, type_at, steps_at, code_at, layouts, hidden_in, faults_of}
+use Rattle.c_typing.specs.Types.{int, void, is_void, size_of, align_of, is_scalar}
+use Rattle.c_typing.specs.Places.{Node, kid, specs_of, node_at}
+use Rattle.c_typing.specs.Names.{Places, places, Name, denoted, is_again, objects_of, function_number, function_text, parameters_of, automatics_in, Entity, is_defined_object, function_name, static_object}
+use Rattle.c_typing.specs.Judgements.{Typing, Fault, rule, too_big, itself, initialized, defines, Judgement, means, verdict, given, judgement_at, typing_at, type_at, steps_at, code_at, layouts, hidden_in, faults_of, besides}
 use Rattle.c_typing.specs.Conversions.{value_of}
-use Rattle.c_typing.specs.Rules.{no_main, size_fault}
+use Rattle.c_typing.specs.Rules.{no_main, size_fault, no_definition, function_in_block, bad_operand, is_getchar, is_putchar}
 use Rattle.c_typing.specs.Expressions.{expression, number_of_type, integer_type, is_literal, type_of_name, variable, postfix_step, subscript, call_by, dot, arrow, unary, measured_type, cast, binary_operator, conditional, comma, assign}
-use Rattle.c_typing.specs.Declarators.{spec_word, specs, struct_specifier, enum_specifier, enumerator_node, declarator, pointer_declarator, array_declarator, function_declarator, member, parameter_node, type_name}
+use Rattle.c_typing.specs.Declarators.{spec_word, specs, struct_specifier, enum_specifier, enumerator_node, declarator, pointer_declarator, array_declarator, function_declarator, member, parameter_node, type_name, place_of_specs}
 use Rattle.c_typing.specs.Initializers.{text_cells, string, braces, init_declarator}
 use Rattle.c_typing.specs.Statements.{does, as_one, declaration, block_node, expression_statement, empty_statement, if_statement, while_statement, do_statement, for_statement, break_statement, continue_statement, return_statement, case_label, default_label, switch_statement, result_type_of}
 
@@ -57,11 +58,12 @@ abbrev pub with_operands : List Judgement → Node → (Typing → Typing → Ju
 with_operands js node f = given (typing_at js (kid node 0)) λ x. given (typing_at js (kid node 1)) λ y. f x y
 
 abbrev pub choice_node : List Judgement → Node → Judgement
-choice_node js node = with_operands js node λ c x. given (typing_at js (kid node 2)) λ y. conditional js node (value_of c) (value_of x) (value_of y)
+choice_node js node =
+    with_operand js node λ c. besides (bad_operand (is_scalar (value_of c).type) node.id) (
+    given (typing_at js (kid node 1)) λ x. given (typing_at js (kid node 2)) λ y. conditional js node (value_of c) (value_of x) (value_of y))
 
 abbrev pub call_node : List Judgement → Node → Judgement
-call_node js node =
-    with_operand js node λ f. given (all_of (map (typing_at js) (other_kids node))) λ xs. call_by node f xs f.form
+call_node js node = with_operand js node λ f. call_by js node f f.form
 
 abbrev pub cast_node : List Judgement → Node → Judgement
 cast_node js node = given (type_at js (kid node 0)) λ t. given (typing_at js (kid node 1)) λ x. cast node t (value_of x)
@@ -170,9 +172,32 @@ defined_in j = None
 abbrev pub unit_in : Places → List Judgement → Whole
 unit_in p js = record { objects = data_of p js; functions = filter_map defined_in js }
 
+-- ---- rules that are seen by places alone: a name that is used, and a function declared in a block
+
+abbrev pub is_there : Places → Name → Entity → Bool
+is_there p e function_name = is_getchar e.text || is_putchar e.text || is_some (function_number p e.text)
+is_there p e static_object = is_defined_object p e
+is_there p e entity = true
+
+abbrev pub use_faults : Places → Node → Option Name → List Fault
+use_faults p node None = []
+use_faults p node (Some e) = no_definition (is_there p e e.entity) node.id
+
+-- the specs stand before a name of function type
+abbrev pub stand_before_function : Places → Node → Bool
+stand_before_function p specs = list_any (λ (e : Name). e.is_function && (specs_of p.nodes (node_at p.nodes e.owner)).id == specs.id) p.names
+
+abbrev pub place_faults_by : Places → Node → SynKind → List Fault
+place_faults_by p node kind.Var = use_faults p node (denoted p.names node.id node.label.text)
+place_faults_by p node kind.Specs = function_in_block (place_of_specs p node) (stand_before_function p node) node.id
+place_faults_by p node k = []
+
+abbrev pub place_faults : Places → List Fault
+place_faults p = flat_map (λ (node : Node). place_faults_by p node node.label.kind) p.nodes
+
 -- where no node has one, the ends of the data are looked at
 abbrev pub all_faults : Places → List Judgement → List Fault
-all_faults p js = by (faults_of js)
+all_faults p js = by (place_faults p ++ faults_of js)
   where
     by : List Fault → List Fault
     by [] = data_faults p js

@@ -1,6 +1,6 @@
 // Typing: which rules of the language a syntax tree keeps, and the typed unit of a tree that keeps them all.
 //
-// This crate has definitions, and no code that runs. The checker's contract is to cite them.
+// This crate has definitions and laws, and no code that runs. The checker's contract is to cite them.
 //
 // In comes a syntax tree. Out go the faults of all its nodes, each a rule that is broken at a node or a size that is above
 // the limit at a node, and the typed unit.
@@ -19,7 +19,7 @@
 // The shapes (`specs/Shapes.antt`): which text and which kids a node of each kind has, by the syntactic categories of the
 // kids, and how the scopes of the grammar run through a tree.
 //
-// The invariant: a node has a meaning only where all its parts have one and it breaks no rule.
+// The invariant: a node that breaks a rule has no meaning, and a node that needs the meaning of a part waits where that has none.
 //
 // The theorem, on `shapes`: in a tree that some token list derives, each node has its shape, and so has the node at each
 // place of its table. On `parents`: which nodes a node may be a kid of. On `names`: the lowest node of a declarator is its

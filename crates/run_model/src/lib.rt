@@ -7,7 +7,8 @@
 //
 // The idea: two runs agree where their stores are equal, so each form of a program changes the same store.
 //
-// The invariant: the output only grows, and the turns left only fall. The crates of the runs prove it, each of its own.
+// The invariant: the output only grows, and the turns left only fall. `c_meaning` proves it of its runs; the crates to come
+// are to prove it of theirs.
 //
 // Source: C99 5.1.2.3 and 6.2.6; that memory is little-endian is this project's choice. That a run is over a number of turns
 // is as in CakeML (Owens, Myreen, Kumar and Tan, Functional Big-Step Semantics, 2016).
