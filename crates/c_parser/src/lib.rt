@@ -11,7 +11,7 @@
 // scopes and these tokens; the scopes behind it are those behind the tree, and the tree is within the budget.
 //
 // The theorem, on `parse`: the tree is one that is derived, of a height of at most 500. After `Syntax` the
-// tokens have no tree; where a token is at the place, however a unit goes on behind it, it has none. After `TooDeep`,
+// tokens have no tree, and however a unit goes on behind the token at the place, it has none. After `TooDeep`,
 // however a unit goes on behind the tokens before the place, its tree is higher than 500; and some unit that
 // begins with them has a tree. So tokens with a tree of at most 500 are answered by it, want of memory apart.
 //

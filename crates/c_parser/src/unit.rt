@@ -37,8 +37,8 @@ impl From<AllocError> for ParseFault {
     }
 }
 
-/// The syntax tree of the tokens. After `Syntax` the tokens have none; where a token is at the place, no unit that begins
-/// with the tokens up to it has one, however it goes on. After `TooDeep` some unit that begins with the tokens before the
+/// The syntax tree of the tokens. After `Syntax` the tokens have none, and no unit has one that begins with them up
+/// to the token at the place, however it goes on. After `TooDeep` some unit that begins with the tokens before the
 /// place has a tree, and however such a unit goes on, its tree is too high.
 pub fn parse(alloc: Global, tokens: &Tokens) -> Result<Syntax, ParseFault>
     ensures tree { IfOk result (λ syntax. HasTable tokens.now syntax) }

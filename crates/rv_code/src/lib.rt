@@ -15,7 +15,7 @@
 // `proofs/StartLines.antt`: what is printed before the functions is the text of the instructions there.
 // `proofs/RoutineRuns.antt`: what `_start`, `c_getchar` and `c_putchar` do, from any state at the first
 // instruction (and `_start` from the one behind its call), with the code in place at a multiple of 4 and,
-// for the two routines, the buffer byte accessible; the two change no register but t1, a0 to a2 and a7.
+// for the two routines, the buffer byte accessible; they change no register but t1, a0 to a2 and a7.
 //
 // The theorem, on `text_of`: the bytes are exactly the text of the unit, where it is well formed. The laws:
 // a run that has ended, or is stuck, is the same at every greater number of steps (`run_stays`), and two
