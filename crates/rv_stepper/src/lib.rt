@@ -1,0 +1,7 @@
+// The stepper: runs a unit of assembly on the machine of RV32IM.
+#![tactic(auto)]
+
+mod effect;
+mod memory;
+mod program;
+mod state;
