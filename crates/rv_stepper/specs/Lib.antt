@@ -1,3 +1,4 @@
 pub mod Space
 pub mod Effects
 pub mod States
+pub mod Output

@@ -3,5 +3,7 @@
 
 mod effect;
 mod memory;
+mod output;
 mod program;
+mod run;
 mod state;

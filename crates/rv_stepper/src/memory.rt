@@ -1,5 +1,6 @@
 // The bytes that a program reaches: its data, and its stack.
-ghost use Rattle.std.specs.Prelude.{◌≡◌, ℕ, ◌+◌, ◌%◌, ◌<◌, ◌≤◌, length, slice_index, slice_set, IfSome, Some};
+ghost use Rattle.std.specs.Prelude.{◌≡◌, ℕ, ◌+◌, ◌%◌, ◌<◌, ◌≤◌, length, slice_index, slice_set, IfSome, Some, None, true, if◌then◌else◌};
+ghost use Rattle.rv_code.specs.Machine.{store_bytes};
 ghost use Rattle.rv_stepper.specs.Space.{IsSpace, memory_of, may_access, place_of, bytes_at, with_bytes, width_of, loaded_word, extended};
 
 use cp_base::{Kind, Layout, Op, To, apply};
@@ -68,6 +69,36 @@ impl Memory {
         None
     }
 
+    /// Whether a byte may be read and written here.
+    pub fn can_access(&self, address: u32) -> bool
+        ensures { result ≡ may_access self.now.layout self.now.size address 1 }
+    {
+        self.place(address, 1).is_some()
+    }
+
+    /// The byte at an address, if it may be read.
+    pub fn byte(&self, address: u32) -> Option<u8>
+        ensures { result ≡ (if may_access self.now.layout self.now.size address 1 then Some (memory_of self.now address) else None) }
+    {
+        let index = self.place(address, 1)?;
+        Some(self.bytes[index])
+    }
+
+    /// Stores the low bytes of a word, and answers whether that is allowed.
+    #[inline(always)]
+    pub fn store(&mut self, kind: Kind, address: u32, word: u32) -> bool
+        ensures tested { result ≡ may_access self.old.layout self.old.size address (width_of kind) }
+        ensures stored { result ≡ true → memory_of self.new ≡ store_bytes (memory_of self.old) address (width_of kind) word }
+        ensures layout { self.new.layout ≡ self.old.layout }
+        ensures size { self.new.size ≡ self.old.size }
+    {
+        let Some(index) = self.place(address, width_of(kind)) else {
+            return false;
+        };
+        put(&mut self.bytes, kind, index, word);
+        true
+    }
+
     /// What a load of this kind gives, if it is allowed.
     #[inline(always)]
     pub fn load(&self, kind: Kind, address: u32) -> Option<u32>
@@ -121,4 +152,42 @@ fn word_at(bytes: &[u8], index: usize) -> u32
     let low = u32::from(bytes[index]) + 256 * u32::from(bytes[index + 1]);
     let high = u32::from(bytes[index + 2]) + 256 * u32::from(bytes[index + 3]);
     low + 65536 * high
+}
+
+#[inline(always)]
+fn put(bytes: &mut [u8], kind: Kind, index: usize, word: u32)
+    requires { index + width_of kind ≤ length bytes.old }
+    ensures { bytes.new ≡ with_bytes bytes.old index (width_of kind) word }
+{
+    match kind {
+        Kind::U8 | Kind::I8 => put_byte(bytes, index, word),
+        Kind::U16 | Kind::I16 => put_half(bytes, index, word),
+        Kind::W32 => put_word(bytes, index, word),
+    }
+}
+
+#[inline(always)]
+fn put_byte(bytes: &mut [u8], index: usize, word: u32)
+    requires { index + 1 ≤ length bytes.old }
+    ensures { bytes.new ≡ with_bytes bytes.old index 1 word }
+{
+    bytes[index] = (word % 256) as u8;
+}
+
+#[inline(always)]
+fn put_half(bytes: &mut [u8], index: usize, word: u32)
+    requires { index + 2 ≤ length bytes.old }
+    ensures { bytes.new ≡ with_bytes bytes.old index 2 word }
+{
+    put_byte(bytes, index, word);
+    put_byte(bytes, index + 1, word / 256);
+}
+
+#[inline(always)]
+fn put_word(bytes: &mut [u8], index: usize, word: u32)
+    requires { index + 4 ≤ length bytes.old }
+    ensures { bytes.new ≡ with_bytes bytes.old index 4 word }
+{
+    put_half(bytes, index, word);
+    put_half(bytes, index + 2, word / 65536);
 }
