@@ -1,2 +1,4 @@
-pub mod Spaces
 pub mod Calls
+pub mod Outputs
+pub mod RunSteps
+pub mod Spaces

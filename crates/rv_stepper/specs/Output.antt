@@ -16,11 +16,11 @@ pub record Moves (old new : Option (List ℕ)) (waiting rest : List ℕ) : Type 
 -- a program that this code and this state are of
 pub record IsOf (p : LoadedProgram) (code : List Instr) (s : State) : Type 0 where
   pub reaches : Reaches p s.memory
-  pub code : p.code ≡ map instr_of code
+  pub instrs : p.code ≡ map instr_of code
 
 -- the outcome of a run, and a sink that has gained its output
 pub record HasRun (old new : Option (List ℕ)) (outcome : RvOutcome) (result : RvOutcome × List ℕ) : Type 0 where
-  pub outcome : outcome ≡ result.0
+  pub same : outcome ≡ result.0
   pub told : new ≡ gained old result.1
 
 -- after some steps of a run: what was written, and what is left to do
