@@ -8,8 +8,8 @@ use Rattle.std.proofs.Math.Path.{fun_ext}
 use Rattle.cp_base.specs.declared.layout.Layout.{Layout}
 use Rattle.cp_base.specs.declared.op.Kind.{Kind}
 use Rattle.cp_base.specs.declared.op.Kind.TheVariants.{U8, I8, U16, I16, W32}
-use Rattle.rv_code.specs.Machine.{is_inside, put_at, store_bytes}
-use Rattle.rv_stepper.specs.Space.{Space, IsSpace, index_of, memory_of, may_access, place_of, with_bytes, width_of}
+use Rattle.rv_code.specs.Machine.{is_inside, put_at, load_bytes, store_bytes}
+use Rattle.rv_stepper.specs.Space.{Space, IsSpace, index_of, memory_of, may_access, place_of, bytes_at, with_bytes, width_of, extended, loaded_word}
 
 -- `n` bytes from an address on are wholly inside the data, or wholly inside the stack
 abbrev IsWithin : Layout → ℕ → ℕ → ℕ → Type 0
@@ -34,11 +34,12 @@ one_place layout size a x lt e = grind (arith, nat_tests)
 next_place : (layout : Layout) (size a n : ℕ) → IsSpace layout size → IsWithin layout size a (suc (suc n)) → index_of layout size a + 1 ≡ index_of layout size (a + 1)
 next_place layout size a n s w = by w s.apart
   where
-    by : IsWithin layout size a (suc (suc n)) → (layout.stack ≡ 0) ⊎ ((layout.cdata + size ≤ layout.top - layout.stack) ⊎ (layout.top ≤ layout.cdata)) → index_of layout size a + 1 ≡ index_of layout size (a + 1)
+    by : IsWithin layout size a (suc (suc n)) → (size ≡ 0) ⊎ ((layout.stack ≡ 0) ⊎ ((layout.cdata + size ≤ layout.top - layout.stack) ⊎ (layout.top ≤ layout.cdata))) → index_of layout size a + 1 ≡ index_of layout size (a + 1)
     by (inl (h, k)) apart = grind (arith, nat_tests)
-    by (inr (h, k)) (inl z) = absurd (omega (arith, h, k, z))
-    by (inr (h, k)) (inr (inl le)) = grind (arith, nat_tests)
-    by (inr (h, k)) (inr (inr le)) = let b = s.below in grind (arith, nat_tests)
+    by (inr (h, k)) (inl z) = grind (arith, nat_tests)
+    by (inr (h, k)) (inr (inl z)) = absurd (omega (arith, h, k, z))
+    by (inr (h, k)) (inr (inr (inl le))) = grind (arith, nat_tests)
+    by (inr (h, k)) (inr (inr (inr le))) = let b = s.below in grind (arith, nat_tests)
 
 abbrev space : Layout → ℕ → List ℕ → Space
 space layout size bytes = record { layout = layout; size = size; bytes = bytes }
@@ -93,3 +94,22 @@ stored s now a n m v i bytes same is len width place e =
 
 pub memory_with : (layout : Layout) (size : ℕ) (a b : List ℕ) → a ≡ b → memory_of (space layout size a) ≡ memory_of (space layout size b)
 memory_with layout size a b e = ap (λ bytes. memory_of (space layout size bytes)) e
+
+read_within : (s : Space) (a n : ℕ) → IsSpace s.layout s.size → IsWithin s.layout s.size a n → load_bytes (memory_of s) a n ≡ bytes_at s.bytes (index_of s.layout s.size a) n
+read_within s a zero is w = refl
+read_within s a (suc zero) is w = refl
+read_within s a (suc (suc n)) is w =
+    ap (λ x. memory_of s a + 256 * x) (read_within s (a + 1) (suc n) is (later s.layout s.size a (suc n) w) ∙ ap (λ i. bytes_at s.bytes i (suc n)) (sym (next_place s.layout s.size a n is w)))
+
+loaded_at : (s : Space) (kind : Kind) (a i : ℕ) → IsSpace s.layout s.size → Some i ≡ place_of s a (width_of kind) → Some (extended kind (bytes_at s.bytes i (width_of kind))) ≡ loaded_word s kind a
+loaded_at s kind a i is place =
+    let p = placed (may_access s.layout s.size a (width_of kind)) i (index_of s.layout s.size a) place in
+    let w = within s.layout s.size a (width_of kind) p.0 in
+    ap (λ x. Some (extended kind x)) (ap (λ j. bytes_at s.bytes j (width_of kind)) p.1 ∙ sym (read_within s a (width_of kind) is w))
+    ∙ ap (λ b. cond b (Some (extended kind (load_bytes (memory_of s) a (width_of kind)))) None) (sym p.0)
+
+-- what a load gives
+pub loaded : (s now : Space) (kind : Kind) (a m i word : ℕ) (bytes : List ℕ) → s ≡ now → IsSpace s.layout s.size → m ≡ width_of kind → Some i ≡ place_of now a m → bytes ≡ s.bytes → word ≡ extended kind (bytes_at bytes i (width_of kind)) → Some word ≡ loaded_word now kind a
+loaded s now kind a m i word bytes same is width place from e =
+    let at : Some i ≡ place_of s a (width_of kind) = place ∙ ap (λ w. place_of now a w) width ∙ ap (λ t. place_of t a (width_of kind)) (sym same) in
+    ap Some (e ∙ ap (λ b. extended kind (bytes_at b i (width_of kind))) from) ∙ loaded_at s kind a i is at ∙ ap (λ t. loaded_word t kind a) same

@@ -14,7 +14,7 @@ pub record Space : Type 0 where
 
 -- data and stack have no address in common, and are below 2 ^ 32
 pub record IsSpace (layout : Layout) (size : ℕ) : Type 0 where
-  pub apart : (layout.stack ≡ 0) ⊎ ((layout.cdata + size ≤ layout.top - layout.stack) ⊎ (layout.top ≤ layout.cdata))
+  pub apart : (size ≡ 0) ⊎ ((layout.stack ≡ 0) ⊎ ((layout.cdata + size ≤ layout.top - layout.stack) ⊎ (layout.top ≤ layout.cdata)))
   pub below : layout.stack ≤ layout.top
   pub within : layout.cdata + size ≤ 2 ^ 32
 

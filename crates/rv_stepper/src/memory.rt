@@ -105,14 +105,7 @@ impl Memory {
         ensures { result ≡ loaded_word self.now kind address }
     {
         let index = self.place(address, width_of(kind))?;
-        let bytes = self.bytes.as_slice();
-        Some(match kind {
-            Kind::U8 => byte_at(bytes, index),
-            Kind::I8 => apply(Op::Conv(To::I8), byte_at(bytes, index), 0),
-            Kind::U16 => half_at(bytes, index),
-            Kind::I16 => apply(Op::Conv(To::I16), half_at(bytes, index), 0),
-            Kind::W32 => word_at(bytes, index),
-        })
+        Some(read(self.bytes.as_slice(), kind, index))
     }
 }
 
@@ -125,6 +118,21 @@ fn width_of(kind: Kind) -> u32
         Kind::U8 | Kind::I8 => 1,
         Kind::U16 | Kind::I16 => 2,
         Kind::W32 => 4,
+    }
+}
+
+// The bytes from an index on, as a word.
+#[inline(always)]
+fn read(bytes: &[u8], kind: Kind, index: usize) -> u32
+    requires { index + width_of kind ≤ length bytes.now }
+    ensures { result ≡ extended kind (bytes_at bytes.now index (width_of kind)) }
+{
+    match kind {
+        Kind::U8 => byte_at(bytes, index),
+        Kind::I8 => apply(Op::Conv(To::I8), byte_at(bytes, index), 0),
+        Kind::U16 => half_at(bytes, index),
+        Kind::I16 => apply(Op::Conv(To::I16), half_at(bytes, index), 0),
+        Kind::W32 => word_at(bytes, index),
     }
 }
 
