@@ -1,8 +1,7 @@
 -- The environment call, by the state of the stepper.
-use Rattle.std.proofs.Common.{◌≡◌, ℕ, zero, suc, Bool, true, false, cond, Option, Some, None, arith, List, length, refl, sym, ap, ◌∙◌}
+use Rattle.std.proofs.Common.{◌≡◌, ℕ, zero, suc, Bool, true, false, Option, Some, None, arith, List, length, refl, ap, ◌∙◌}
 use Rattle.std.specs.Prelude.{slice_get, slice_index, ◌==◌, ◌&&◌, ◌%◌, if◌then◌else◌}
 use Rattle.std.proofs.lemmas.Bool.Decides.{nat_tests}
-use Rattle.cp_base.specs.declared.layout.Layout.{Layout}
 use Rattle.rv_code.specs.Registers.{x_a0, x_a1, x_a2, x_a7}
 use Rattle.rv_code.specs.Machine.{LoadedProgram, Machine, Next, Ends, Sticks, read, reads_byte, writes_byte, environment_call}
 use Rattle.rv_stepper.specs.declared.state.State.{State}

@@ -1,13 +1,11 @@
 -- The instructions of a unit, line by line and function by function.
-use Rattle.std.proofs.Common.{◌≡◌, ℕ, zero, suc, ◌+◌, ◌<◌, ◌≤◌, List, [], ◌∷◌, ◌++◌, length, take, drop, get_or, refl, sym, ap, ◌∙◌, arith, append_assoc, length-append}
-use Rattle.std.specs.Prelude.{slice_index}
-use Rattle.std.proofs.lemmas.List.{take_more, append-nil, get_or_append_left, get_or_push}
+use Rattle.std.proofs.Common.{◌≡◌, ℕ, ◌+◌, ◌<◌, List, [], ◌∷◌, ◌++◌, length, take, get_or, refl, sym, ap, ◌∙◌, append_assoc}
+use Rattle.std.proofs.lemmas.List.{take_more}
 use Rattle.rv_code.specs.declared.assembly.AsmLine.{AsmLine}
 use Rattle.rv_code.specs.declared.assembly.AsmLine.TheVariants.{Label, Instr}
 use Rattle.rv_code.specs.declared.assembly.AsmInstr.{AsmInstr}
 use Rattle.rv_code.specs.declared.assembly.AsmFunction.{AsmFunction}
-use Rattle.rv_code.specs.Routines.{start_code, functions_index}
-use Rattle.rv_code.specs.Places.{instrs_of, code_of, function_index}
+use Rattle.rv_code.specs.Places.{instrs_of, code_of}
 
 instrs_of-append : (a b : List AsmLine) → instrs_of (a ++ b) ≡ instrs_of a ++ instrs_of b
 instrs_of-append [] b = refl
@@ -24,4 +22,3 @@ lines_more lines i d before now new lt so_far e =
 code_of-append : (a b : List AsmFunction) → code_of (a ++ b) ≡ code_of a ++ code_of b
 code_of-append [] b = refl
 code_of-append (f ∷ a) b = ap (λ is. instrs_of f.lines ++ is) (code_of-append a b) ∙ sym (append_assoc (instrs_of f.lines) (code_of a) (code_of b))
-

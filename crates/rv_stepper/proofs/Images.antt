@@ -1,25 +1,27 @@
 -- A unit in the memory of the stepper is the unit in the memory of the machine.
-use Rattle.std.proofs.Common.{◌≡◌, ◌≢◌, ℕ, zero, suc, ◌+◌, ◌-◌, ◌*◌, ◌<◌, ◌≤◌, ◌^◌, ◌⊎◌, inl, inr, Bool, true, false, cond, List, [], ◌∷◌, ◌++◌, length, get_or, refl, sym, ap, ◌∙◌, subst, arith, get_or-set_other, get_or-set_same}
+use Rattle.std.proofs.Common.{◌≡◌, ◌≢◌, ℕ, zero, suc, ◌+◌, ◌-◌, ◌*◌, ◌<◌, ◌≤◌, ◌⊎◌, inl, inr, Bool, true, false, cond, List, [], ◌++◌, length, get_or, refl, sym, ap, ◌∙◌, subst, arith, get_or-set_other}
 use Rattle.std.specs.Prelude.{map, replicate, slice_index, slice_set, nat_le, ◌==◌, ◌&&◌, IsTrue}
 use Rattle.std.specs.List.{flat_map}
 use Rattle.std.proofs.Math.Path.{fun_ext}
 use Rattle.std.proofs.lemmas.Bool.{cases_lt}
 use Rattle.std.proofs.lemmas.Bool.Decides.{nat_tests}
-use Rattle.std.proofs.lemmas.List.{get_or_append_left, get_or-append-add, length-replicate}
+use Rattle.std.proofs.lemmas.List.{get_or_append_left, get_or-append-add}
 use Rattle.cp_base.specs.declared.layout.Layout.{Layout}
-use Rattle.cp_base.specs.Regions.{Holds, holds, are_apart, data_region, stack_region}
+use Rattle.cp_base.specs.Regions.{Holds, holds, are_apart, is_placed, is_aligned_word, code_region, data_region, stack_region}
 use Rattle.cp_base.proofs.HoldsTest.{Holds-test, test-Holds}
 use Rattle.rv_code.specs.declared.assembly.AsmInstr.{AsmInstr}
 use Rattle.rv_code.specs.declared.assembly.AsmUnit.{AsmUnit}
-use Rattle.rv_code.specs.Sizes.{data_size, buffer_offset}
-use Rattle.rv_code.specs.Places.{whole_code}
+use Rattle.rv_code.specs.declared.assembly.AsmFunction.{AsmFunction}
+use Rattle.rv_code.specs.declared.assembly.DataItem.{DataItem}
+use Rattle.rv_code.specs.Routines.{start_code}
+use Rattle.rv_code.specs.Sizes.{data_size}
+use Rattle.rv_code.specs.Places.{whole_code, code_of, main_number}
 use Rattle.rv_code.specs.Loading.{item_bytes, loaded_from, loaded_data, code_size}
 use Rattle.rv_code.specs.WellFormed.{IsWellFormed}
 use Rattle.rv_code.specs.Machine.{is_inside, put_at, loaded, first_state, first_memory, LoadedProgram}
-use Rattle.rv_stepper.specs.declared.program.Instr.{Instr}
 use Rattle.rv_stepper.specs.declared.state.State.{State}
 use Rattle.rv_stepper.specs.declared.load.Image.{Image}
-use Rattle.rv_stepper.specs.Space.{Space, IsSpace, index_of, memory_of}
+use Rattle.rv_stepper.specs.Space.{Space, IsSpace, memory_of}
 use Rattle.rv_stepper.specs.States.{machine_of, instr_of}
 use Rattle.rv_stepper.specs.Images.{IsImage}
 use Rattle.rv_stepper.proofs.Loads.{data_length}
@@ -37,7 +39,11 @@ space_of layout code size e = record { apart = by (cases_lt 0 size); below = h.s
     h = Holds-test layout code size e
 
     test : are_apart (data_region layout size) (stack_region layout) ≡ true
-    test = last _ _ e
+    test =
+        let l = layout in
+        last
+        (is_aligned_word l.code && is_aligned_word l.cdata && is_aligned_word l.top && is_aligned_word l.stack && nat_le l.stack l.top && is_placed (code_region l code) && is_placed (data_region l size) && is_placed (stack_region l) && are_apart (code_region l code) (data_region l size) && are_apart (code_region l code) (stack_region l))
+        (are_apart (data_region l size) (stack_region l)) e
 
     Apart : Type 0
     Apart = (size ≡ 0) ⊎ ((layout.stack ≡ 0) ⊎ ((layout.cdata + size ≤ layout.top - layout.stack) ⊎ (layout.top ≤ layout.cdata)))
@@ -54,7 +60,7 @@ space_of layout code size e = record { apart = by (cases_lt 0 size); below = h.s
     by (inl a) = second a (cases_lt 0 layout.stack)
     by (inr a) = inl (omega (arith, a))
 
-zero_at : (n k : ℕ) → get_or (replicate n 0) k 0 ≡ 0
+zero_at : (n k : ℕ) → get_or {A = ℕ} (replicate n 0) k 0 ≡ 0
 zero_at zero k = refl
 zero_at (suc n) zero = refl
 zero_at (suc n) (suc k) = zero_at n k
@@ -97,8 +103,8 @@ space_at asm layout size = record { layout = layout; size = size; bytes = flat_m
 first_is : (asm : AsmUnit) (layout : Layout) (size : ℕ) → size ≡ length (loaded_data asm layout) → machine_of (state_at layout (space_at asm layout size)) [] ≡ first_state (loaded asm layout) (λ _. 0)
 first_is asm layout size e =
     ap (λ n. machine_of (state_at layout (space_at asm layout n)) []) e
-    ∙ ap (λ f. record machine_of (state_at layout (space_at asm layout (length (loaded_data asm layout)))) [] { registers = f }) (registers_is layout.top)
-    ∙ ap (λ f. record first_state (loaded asm layout) (λ _. 0) { memory = f }) (memory_is (loaded asm layout))
+    ∙ ap (λ f. record (machine_of (state_at layout (space_at asm layout (length (loaded_data asm layout)))) []) { registers = f }) (registers_is layout.top)
+    ∙ ap (λ f. record (first_state (loaded asm layout) (λ _. 0)) { memory = f }) (memory_is (loaded asm layout))
 
 pub image_is : (asm : AsmUnit) (layout : Layout) (size : ℕ) (instrs : List AsmInstr) (image : Image) → IsWellFormed asm → holds layout (code_size asm) (data_size asm.items) ≡ true → size ≡ data_size asm.items → instrs ≡ whole_code asm → map instr_of image.code.items ≡ loaded_from asm.functions layout 0 instrs → image.state ≡ state_at layout (space_at asm layout size) → IsImage asm layout image
 image_is asm layout size instrs image w held sized e code state =
@@ -122,3 +128,25 @@ holds_is false layout code size h = by (holds layout code size) refl
     by : (t : Bool) → holds layout code size ≡ t → false ≡ holds layout code size
     by true e = absurd (cc (h.1 (Holds-test layout code size e)))
     by false e = sym e
+
+abbrev unit : List AsmFunction → List DataItem → AsmUnit
+unit functions items = record { functions = functions; items = items }
+
+image_of : (asm : AsmUnit) (layout : Layout) (size main buffer len : ℕ) (instrs : List AsmInstr) (image : Image) → IsWellFormed asm → size ≡ data_size asm.items → main ≡ main_number asm.functions → buffer ≡ size - 1 → instrs ≡ start_code main buffer ++ code_of asm.functions → len ≡ length instrs → holds layout (4 * len) size ≡ true → map instr_of image.code.items ≡ loaded_from asm.functions layout 0 instrs → image.state ≡ state_at layout (space_at asm layout size) → IsImage asm layout image
+image_of asm layout size main buffer len instrs image w sized m b i l held code state =
+    let whole : instrs ≡ whole_code asm = i ∙ ap (λ n. start_code n buffer ++ code_of asm.functions) m ∙ ap (λ n. start_code (main_number asm.functions) n ++ code_of asm.functions) (b ∙ ap (λ n. n - 1) sized) in
+    let held_unit : holds layout (code_size asm) (data_size asm.items) ≡ true = sym (ap (λ n. holds layout (4 * n) size) (l ∙ ap length whole) ∙ ap (λ n. holds layout (code_size asm) n) sized) ∙ held in
+    image_is asm layout size instrs image w held_unit sized whole code state
+
+-- the unit in memory, from what the parts of the loading say
+pub image_made : (asm : AsmUnit) (functions : List AsmFunction) (items : List DataItem) (layout : Layout) (size main buffer len : ℕ) (instrs : List AsmInstr) (memory : Space) (image : Image) → functions ≡ asm.functions → items ≡ asm.items → IsWellFormed asm → size ≡ data_size items → main ≡ main_number functions → buffer ≡ size - 1 → instrs ≡ start_code main buffer ++ code_of functions → len ≡ length instrs → holds layout (4 * len) size ≡ true → map instr_of image.code.items ≡ loaded_from functions layout 0 instrs → image.state ≡ state_at layout memory → memory ≡ record { layout = layout; size = size; bytes = flat_map (item_bytes layout.cdata) items ++ replicate layout.stack 0 } → IsImage asm layout image
+image_made asm functions items layout size main buffer len instrs memory image f t w sized m b i l held code state mem =
+    let same : unit functions items ≡ asm = ap (λ fs. unit fs items) f ∙ ap (λ is. unit asm.functions is) t in
+    subst (λ a. IsImage a layout image) same (image_of (unit functions items) layout size main buffer len instrs image (subst IsWellFormed (sym same) w) sized m b i l held code (state ∙ ap (state_at layout) mem))
+
+-- where the layout does not hold it
+pub not_held : (asm : AsmUnit) (functions : List AsmFunction) (items : List DataItem) (layout : Layout) (size main buffer len : ℕ) (instrs : List AsmInstr) → functions ≡ asm.functions → items ≡ asm.items → size ≡ data_size items → main ≡ main_number functions → buffer ≡ size - 1 → instrs ≡ start_code main buffer ++ code_of functions → len ≡ length instrs → holds layout (4 * len) size ≡ false → holds layout (code_size asm) (data_size asm.items) ≡ false
+not_held asm functions items layout size main buffer len instrs f t sized m b i l held =
+    let whole : instrs ≡ whole_code (unit functions items) = i ∙ ap (λ n. start_code n buffer ++ code_of functions) m ∙ ap (λ n. start_code (main_number functions) n ++ code_of functions) (b ∙ ap (λ n. n - 1) sized) in
+    let same : unit functions items ≡ asm = ap (λ fs. unit fs items) f ∙ ap (λ is. unit asm.functions is) t in
+    sym (ap (λ n. holds layout (4 * n) size) (l ∙ ap length whole) ∙ ap (λ n. holds layout (code_size (unit functions items)) n) sized ∙ ap (λ a. holds layout (code_size a) (data_size a.items)) same) ∙ held

@@ -6,3 +6,4 @@ pub mod Outputs
 pub mod Ranges
 pub mod RunSteps
 pub mod Spaces
+pub mod Simulations

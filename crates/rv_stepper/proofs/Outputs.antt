@@ -6,7 +6,7 @@ use Rattle.rv_code.specs.declared.assembly.RvName.{RvName}
 use Rattle.rv_code.specs.declared.assembly.RvName.TheVariants.{Beq, Bne, Blt, Bge, Bltu, Bgeu, Lb, Lh, Lw, Lbu, Lhu, Sb, Sh, Sw, Ecall}
 use Rattle.rv_code.specs.Registers.{x_a0, x_a1, x_a2, x_a7}
 use Rattle.rv_code.specs.Loading.{LoadedInstr}
-use Rattle.rv_code.specs.Machine.{LoadedProgram, Machine, Next, Goes, Ends, Sticks, read, can_access, goes_on, branches, reads_byte, writes_byte, environment_call, executes, fetched, obeys, step, resumes, run}
+use Rattle.rv_code.specs.Machine.{LoadedProgram, Machine, Next, Goes, Ends, Sticks, read, can_access, branches, reads_byte, environment_call, executes, fetched, obeys, step, resumes, run}
 
 abbrev pub Extends : List ℕ → List ℕ → Type 0
 Extends before out = (more : List ℕ) × (out ≡ before ++ more)

@@ -1,12 +1,11 @@
 -- A run by steps: what each step leaves of it.
-use Rattle.std.proofs.Common.{◌≡◌, ℕ, zero, suc, ◌+◌, ◌-◌, ◌<◌, ◌≤◌, List, [], ◌∷◌, ◌++◌, length, Option, Some, None, refl, sym, ap, ◌∙◌, subst, arith, append_assoc}
+use Rattle.std.proofs.Common.{◌≡◌, ℕ, zero, suc, ◌-◌, ◌<◌, ◌≤◌, List, [], ◌∷◌, ◌++◌, Option, refl, sym, ap, ◌∙◌, subst, arith, append_assoc}
 use Rattle.std.specs.Prelude.{Result, Ok, Err, IfOk, OnErr, map}
-use Rattle.std.proofs.lemmas.List.{append-nil}
 use Rattle.cp_base.specs.Outside.{gained, GainsFront}
 use Rattle.cp_base.proofs.Gains.{gained-gained, gained-nothing, GainsFront-more, GainsFront-after}
 use Rattle.rv_code.specs.declared.machine.RvOutcome.{RvOutcome}
 use Rattle.rv_code.specs.declared.machine.RvOutcome.TheVariants.{Ended, Running, Stuck}
-use Rattle.rv_code.specs.Machine.{LoadedProgram, Machine, Next, Goes, Ends, Sticks, step, run, resumes}
+use Rattle.rv_code.specs.Machine.{LoadedProgram, Machine, step, run, resumes}
 use Rattle.rv_stepper.specs.declared.program.Instr.{Instr}
 use Rattle.rv_stepper.specs.declared.state.State.{State}
 use Rattle.rv_stepper.specs.declared.state.Stepped.{Stepped}

@@ -1,14 +1,13 @@
 -- A store among the bytes is a store in the memory of the machine.
-use Rattle.std.proofs.Common.{◌≡◌, ◌≢◌, ℕ, zero, suc, ◌+◌, ◌-◌, ◌*◌, ◌/◌, ◌%◌, ◌<◌, ◌≤◌, ◌⊎◌, inl, inr, Bool, true, false, cond, Some, None, List, length, get_or, refl, sym, ap, ◌∙◌, subst, arith, get_or-set_other, get_or-set_same}
-use Rattle.std.specs.Prelude.{slice_index, slice_set, ◌==◌, nat_le, ◌&&◌, ◌||◌, if◌then◌else◌}
+use Rattle.std.proofs.Common.{◌≡◌, ◌≢◌, ℕ, zero, suc, ◌+◌, ◌-◌, ◌*◌, ◌/◌, ◌%◌, ◌<◌, ◌≤◌, ◌⊎◌, inl, inr, Bool, true, false, cond, Some, None, List, length, refl, sym, ap, ◌∙◌, subst, arith, get_or-set_other, get_or-set_same}
+use Rattle.std.specs.Prelude.{slice_index, slice_set, ◌==◌, if◌then◌else◌}
 use Rattle.std.proofs.lemmas.Bool.Decides.{nat_tests}
 use Rattle.std.proofs.lemmas.Bool.{cases_lt}
 use Rattle.std.proofs.lemmas.List.{length-set}
 use Rattle.std.proofs.Math.Path.{fun_ext}
 use Rattle.cp_base.specs.declared.layout.Layout.{Layout}
 use Rattle.cp_base.specs.declared.op.Kind.{Kind}
-use Rattle.cp_base.specs.declared.op.Kind.TheVariants.{U8, I8, U16, I16, W32}
-use Rattle.rv_code.specs.Machine.{is_inside, put_at, load_bytes, store_bytes}
+use Rattle.rv_code.specs.Machine.{put_at, load_bytes, store_bytes}
 use Rattle.rv_stepper.specs.Space.{Space, IsSpace, index_of, memory_of, may_access, place_of, bytes_at, with_bytes, width_of, extended, loaded_word}
 
 -- `n` bytes from an address on are wholly inside the data, or wholly inside the stack

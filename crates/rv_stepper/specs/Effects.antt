@@ -1,6 +1,5 @@
 -- What an instruction does with the state of the machine. No public contract names this file.
 use Rattle.std.specs.Prelude.{ℕ, List}
-use Rattle.cp_base.specs.declared.op.Kind.{Kind}
 use Rattle.rv_code.specs.Machine.{LoadedProgram, Machine, Next, gives, jumps, branches, loads, stores, environment_call}
 use Rattle.rv_stepper.specs.declared.effect.Effect.{Effect}
 use Rattle.rv_stepper.specs.declared.effect.Effect.TheVariants.{Gives, Jumps, Branches, Loads, Stores, Calls}

@@ -1,5 +1,5 @@
 -- A unit in the memory of the stepper. No public contract names this file.
-use Rattle.std.specs.Prelude.{◌≡◌, ℕ, List, [], true, All}
+use Rattle.std.specs.Prelude.{◌≡◌, [], true, All}
 use Rattle.cp_base.specs.declared.layout.Layout.{Layout}
 use Rattle.cp_base.specs.Regions.{holds}
 use Rattle.rv_code.specs.declared.assembly.AsmUnit.{AsmUnit}

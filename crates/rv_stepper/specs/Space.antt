@@ -1,10 +1,10 @@
 -- The bytes that a program reaches, in one vector, as the memory of the machine. No public contract names this file.
-use Rattle.std.specs.Prelude.{ℕ, zero, suc, ◌+◌, ◌-◌, ◌*◌, ◌/◌, ◌%◌, ◌≤◌, ◌^◌, ◌≡◌, ◌⊎◌, Bool, ◌==◌, ◌&&◌, ◌||◌, if◌then◌else◌, List, slice_index, slice_set, Option, Some, None, length}
+use Rattle.std.specs.Prelude.{ℕ, zero, suc, ◌+◌, ◌-◌, ◌*◌, ◌/◌, ◌%◌, ◌≤◌, ◌^◌, ◌≡◌, ◌⊎◌, Bool, ◌==◌, ◌&&◌, ◌||◌, if◌then◌else◌, List, slice_index, slice_set, Option, Some, None}
 use Rattle.cp_base.specs.declared.layout.Layout.{Layout}
 use Rattle.cp_base.specs.declared.op.Kind.{Kind}
 use Rattle.cp_base.specs.declared.op.Kind.TheVariants.{U8, I8, U16, I16, W32}
 use Rattle.cp_base.specs.Words.{sign_extended}
-use Rattle.rv_code.specs.Machine.{is_inside, load_bytes, store_bytes}
+use Rattle.rv_code.specs.Machine.{is_inside, load_bytes}
 
 -- the bytes of the data, of which there are `size`, and then those of the stack
 pub record Space : Type 0 where

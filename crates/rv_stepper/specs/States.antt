@@ -1,5 +1,5 @@
 -- The state of the stepper as the state of the machine. No public contract names this file.
-use Rattle.std.specs.Prelude.{◌≡◌, ℕ, zero, suc, ◌<◌, ◌++◌, List, [], ◌∷◌, length, map, slice_index, Bool, ◌==◌, ◌&&◌}
+use Rattle.std.specs.Prelude.{◌≡◌, ℕ, zero, suc, ◌<◌, ◌++◌, List, [], ◌∷◌, length, slice_index, Bool, ◌==◌, ◌&&◌}
 use Rattle.rv_code.specs.Loading.{LoadedInstr}
 use Rattle.rv_code.specs.Machine.{LoadedProgram, Machine, Next, Goes, Ends, Sticks}
 use Rattle.rv_code.specs.Registers.{x_a0, x_a1, x_a2, x_a7}

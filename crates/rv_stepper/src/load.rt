@@ -42,7 +42,7 @@ pub fn load(alloc: Global, asm: &AsmUnit, layout: &Layout) -> Result<Option<Imag
         main_number(functions),
         size.saturating_sub(1),
     )?;
-    if !holds(layout, 4 * (code.instrs.len() as u128), size) {
+    if !holds(layout, 4 * (code.instrs.as_slice().len() as u128), size) {
         return Ok(None);
     }
     let memory = load_memory(alloc, items, *layout, size)?;

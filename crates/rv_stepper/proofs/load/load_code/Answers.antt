@@ -1,4 +1,4 @@
-use Rattle.std.proofs.Common.{◌≡◌, ◌<◌, ◌+◌, length, take, sym, subst, ap, ◌∙◌}
+use Rattle.std.proofs.Common.{◌+◌, take, sym, ap, ◌∙◌}
 use Rattle.rv_code.specs.Loading.{loaded_from}
 use Rattle.rv_stepper.proofs.Loads.{load_more}
 use Rattle.rv_stepper.proofs.load.load_code.Goals as goal

@@ -1,6 +1,5 @@
-use Rattle.std.proofs.Common.{◌∙◌, sym, arith, subst, ap}
+use Rattle.std.proofs.Common.{◌∙◌, arith}
 use Rattle.cp_base.proofs.Gains.{on_err}
-use Rattle.rv_stepper.specs.States.{Keeps}
 use Rattle.rv_stepper.proofs.RunSteps.{SoFar-went, SoFar-wrote, SoFar-moved, SoFar-failed, failed_err, finished_ended, finished_stuck, finished_running}
 use Rattle.rv_stepper.proofs.run.run.Goals as goal
 use Rattle.rv_stepper.proofs.run.run.Goals.{in-Went, in-Wrote}

@@ -1,4 +1,4 @@
-use Rattle.std.proofs.Common.{◌≡◌, ◌+◌, ◌≤◌, drop, ℕ}
+use Rattle.std.proofs.Common.{◌≡◌, ◌+◌, ◌≤◌, drop}
 use Rattle.std.specs.Option.{option_map}
 use Rattle.rv_code.specs.Places.{label_index}
 use Rattle.rv_stepper.proofs.symbols.label_index.Given as goal

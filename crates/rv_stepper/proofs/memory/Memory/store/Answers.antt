@@ -1,7 +1,6 @@
 use Rattle.std.proofs.Common.{◌∙◌, ap, sym, length}
 use Rattle.std.proofs.lemmas.List.{with_items_is}
-use Rattle.rv_code.specs.Machine.{store_bytes}
-use Rattle.rv_stepper.specs.Space.{memory_of, with_bytes, width_of}
+use Rattle.rv_stepper.specs.Space.{with_bytes, width_of}
 use Rattle.rv_stepper.proofs.Spaces.{stored, memory_with}
 use Rattle.rv_stepper.proofs.memory.Memory.store.Goals as goal
 

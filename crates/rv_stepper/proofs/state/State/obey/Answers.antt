@@ -1,4 +1,4 @@
-use Rattle.std.proofs.Common.{sym, ◌∙◌, ap}
+use Rattle.std.proofs.Common.{◌∙◌, ap}
 use Rattle.rv_code.specs.Machine.{executes}
 use Rattle.rv_stepper.specs.States.{machine_of}
 use Rattle.rv_stepper.proofs.Calls.{read_is}
