@@ -17,7 +17,6 @@ use Rattle.rv_code.specs.Routines.{start_code}
 use Rattle.rv_code.specs.Sizes.{data_size}
 use Rattle.rv_code.specs.Places.{whole_code, code_of, main_number}
 use Rattle.rv_code.specs.Loading.{item_bytes, loaded_from, loaded_data, code_size}
-use Rattle.rv_code.specs.WellFormed.{IsWellFormed}
 use Rattle.rv_code.specs.Machine.{is_inside, put_at, loaded, first_state, first_memory, LoadedProgram}
 use Rattle.rv_stepper.specs.declared.state.State.{State}
 use Rattle.rv_stepper.specs.declared.load.Image.{Image}
@@ -25,7 +24,6 @@ use Rattle.rv_stepper.specs.Space.{Space, IsSpace, memory_of}
 use Rattle.rv_stepper.specs.States.{machine_of, instr_of}
 use Rattle.rv_stepper.specs.Images.{IsImage}
 use Rattle.rv_stepper.proofs.Loads.{data_length}
-use Rattle.rv_stepper.proofs.Ranges.{ranges}
 
 last : (a b : Bool) → (a && b) ≡ true → b ≡ true
 last true b e = e
@@ -77,25 +75,25 @@ memory_is p = fun_ext (λ a. pick p.bytes p.layout.stack (is_inside p.layout.cda
     within : (a : ℕ) → is_inside p.layout.cdata (length p.bytes) a 1 ≡ true → a - p.layout.cdata < length p.bytes
     within a e = grind (arith, nat_tests)
 
-registers_is : (top : ℕ) → slice_index (slice_set (replicate 32 0) 2 top) ≡ put_at (λ _. 0) 2 top
+registers_is : (top : ℕ) → slice_index (slice_set (replicate 256 0) 2 top) ≡ put_at (λ _. 0) 2 top
 registers_is top = fun_ext (λ r. by r (cases_lt r 2))
   where
-    other : (r : ℕ) → r ≢ 2 → slice_index (slice_set (replicate 32 0) 2 top) r ≡ put_at (λ _. 0) 2 top r
-    other r ne = let test : (r == 2) ≡ false = grind (arith, nat_tests) in rw test (get_or-set_other (replicate 32 0) 2 r top 0 ne ∙ zero_at 32 r)
+    other : (r : ℕ) → r ≢ 2 → slice_index (slice_set (replicate 256 0) 2 top) r ≡ put_at (λ _. 0) 2 top r
+    other r ne = let test : (r == 2) ≡ false = grind (arith, nat_tests) in rw test (get_or-set_other (replicate 256 0) 2 r top 0 ne ∙ zero_at 256 r)
 
-    by : (r : ℕ) → (r < 2) ⊎ (2 ≤ r) → slice_index (slice_set (replicate 32 0) 2 top) r ≡ put_at (λ _. 0) 2 top r
+    by : (r : ℕ) → (r < 2) ⊎ (2 ≤ r) → slice_index (slice_set (replicate 256 0) 2 top) r ≡ put_at (λ _. 0) 2 top r
     by r (inl lt) = other r (omega arith)
     by r (inr le) = more (cases_lt 2 r)
       where
-        more : (2 < r) ⊎ (r ≤ 2) → slice_index (slice_set (replicate 32 0) 2 top) r ≡ put_at (λ _. 0) 2 top r
+        more : (2 < r) ⊎ (r ≤ 2) → slice_index (slice_set (replicate 256 0) 2 top) r ≡ put_at (λ _. 0) 2 top r
         more (inl lt) = other r (omega arith)
         more (inr ge) =
             let same : r ≡ 2 = omega arith in
-            subst (λ k. slice_index (slice_set (replicate 32 0) 2 top) k ≡ put_at (λ _. 0) 2 top k) (sym same) refl
+            subst (λ k. slice_index (slice_set (replicate 256 0) 2 top) k ≡ put_at (λ _. 0) 2 top k) (sym same) refl
 
 -- the state at the start, of a space
 abbrev pub state_at : Layout → Space → State
-state_at layout space = record { pc = layout.code; registers = slice_set (replicate 32 0) 2 layout.top; memory = space; taken = 0 }
+state_at layout space = record { pc = layout.code; registers = slice_set (replicate 256 0) 2 layout.top; memory = space; taken = 0 }
 
 abbrev pub space_at : AsmUnit → Layout → ℕ → Space
 space_at asm layout size = record { layout = layout; size = size; bytes = flat_map (item_bytes layout.cdata) asm.items ++ replicate layout.stack 0 }
@@ -106,13 +104,12 @@ first_is asm layout size e =
     ∙ ap (λ f. record (machine_of (state_at layout (space_at asm layout (length (loaded_data asm layout)))) []) { registers = f }) (registers_is layout.top)
     ∙ ap (λ f. record (first_state (loaded asm layout) (λ _. 0)) { memory = f }) (memory_is (loaded asm layout))
 
-pub image_is : (asm : AsmUnit) (layout : Layout) (size : ℕ) (instrs : List AsmInstr) (image : Image) → IsWellFormed asm → holds layout (code_size asm) (data_size asm.items) ≡ true → size ≡ data_size asm.items → instrs ≡ whole_code asm → map instr_of image.code.items ≡ loaded_from asm.functions layout 0 instrs → image.state ≡ state_at layout (space_at asm layout size) → IsImage asm layout image
-image_is asm layout size instrs image w held sized e code state =
+pub image_is : (asm : AsmUnit) (layout : Layout) (size : ℕ) (instrs : List AsmInstr) (image : Image) → holds layout (code_size asm) (data_size asm.items) ≡ true → size ≡ data_size asm.items → instrs ≡ whole_code asm → map instr_of image.code.items ≡ loaded_from asm.functions layout 0 instrs → image.state ≡ state_at layout (space_at asm layout size) → IsImage asm layout image
+image_is asm layout size instrs image held sized e code state =
     let all = code ∙ ap (loaded_from asm.functions layout 0) e in
     let len : size ≡ length (loaded_data asm layout) = sized ∙ sym (data_length layout.cdata asm.items) in
     record {
       held = held;
-      range = ranges asm layout image.code.items w all;
       program = record {
         reaches = record { layout = ap (λ (s : State). s.memory.layout) (sym state); size = sym len ∙ ap (λ (s : State). s.memory.size) (sym state) };
         instrs = sym all;
@@ -132,17 +129,17 @@ holds_is false layout code size h = by (holds layout code size) refl
 abbrev unit : List AsmFunction → List DataItem → AsmUnit
 unit functions items = record { functions = functions; items = items }
 
-image_of : (asm : AsmUnit) (layout : Layout) (size main buffer len : ℕ) (instrs : List AsmInstr) (image : Image) → IsWellFormed asm → size ≡ data_size asm.items → main ≡ main_number asm.functions → buffer ≡ size - 1 → instrs ≡ start_code main buffer ++ code_of asm.functions → len ≡ length instrs → holds layout (4 * len) size ≡ true → map instr_of image.code.items ≡ loaded_from asm.functions layout 0 instrs → image.state ≡ state_at layout (space_at asm layout size) → IsImage asm layout image
-image_of asm layout size main buffer len instrs image w sized m b i l held code state =
+image_of : (asm : AsmUnit) (layout : Layout) (size main buffer len : ℕ) (instrs : List AsmInstr) (image : Image) → size ≡ data_size asm.items → main ≡ main_number asm.functions → buffer ≡ size - 1 → instrs ≡ start_code main buffer ++ code_of asm.functions → len ≡ length instrs → holds layout (4 * len) size ≡ true → map instr_of image.code.items ≡ loaded_from asm.functions layout 0 instrs → image.state ≡ state_at layout (space_at asm layout size) → IsImage asm layout image
+image_of asm layout size main buffer len instrs image sized m b i l held code state =
     let whole : instrs ≡ whole_code asm = i ∙ ap (λ n. start_code n buffer ++ code_of asm.functions) m ∙ ap (λ n. start_code (main_number asm.functions) n ++ code_of asm.functions) (b ∙ ap (λ n. n - 1) sized) in
     let held_unit : holds layout (code_size asm) (data_size asm.items) ≡ true = sym (ap (λ n. holds layout (4 * n) size) (l ∙ ap length whole) ∙ ap (λ n. holds layout (code_size asm) n) sized) ∙ held in
-    image_is asm layout size instrs image w held_unit sized whole code state
+    image_is asm layout size instrs image held_unit sized whole code state
 
 -- the unit in memory, from what the parts of the loading say
-pub image_made : (asm : AsmUnit) (functions : List AsmFunction) (items : List DataItem) (layout : Layout) (size main buffer len : ℕ) (instrs : List AsmInstr) (memory : Space) (image : Image) → functions ≡ asm.functions → items ≡ asm.items → IsWellFormed asm → size ≡ data_size items → main ≡ main_number functions → buffer ≡ size - 1 → instrs ≡ start_code main buffer ++ code_of functions → len ≡ length instrs → holds layout (4 * len) size ≡ true → map instr_of image.code.items ≡ loaded_from functions layout 0 instrs → image.state ≡ state_at layout memory → memory ≡ record { layout = layout; size = size; bytes = flat_map (item_bytes layout.cdata) items ++ replicate layout.stack 0 } → IsImage asm layout image
-image_made asm functions items layout size main buffer len instrs memory image f t w sized m b i l held code state mem =
+pub image_made : (asm : AsmUnit) (functions : List AsmFunction) (items : List DataItem) (layout : Layout) (size main buffer len : ℕ) (instrs : List AsmInstr) (memory : Space) (image : Image) → functions ≡ asm.functions → items ≡ asm.items → size ≡ data_size items → main ≡ main_number functions → buffer ≡ size - 1 → instrs ≡ start_code main buffer ++ code_of functions → len ≡ length instrs → holds layout (4 * len) size ≡ true → map instr_of image.code.items ≡ loaded_from functions layout 0 instrs → image.state ≡ state_at layout memory → memory ≡ record { layout = layout; size = size; bytes = flat_map (item_bytes layout.cdata) items ++ replicate layout.stack 0 } → IsImage asm layout image
+image_made asm functions items layout size main buffer len instrs memory image f t sized m b i l held code state mem =
     let same : unit functions items ≡ asm = ap (λ fs. unit fs items) f ∙ ap (λ is. unit asm.functions is) t in
-    subst (λ a. IsImage a layout image) same (image_of (unit functions items) layout size main buffer len instrs image (subst IsWellFormed (sym same) w) sized m b i l held code (state ∙ ap (state_at layout) mem))
+    subst (λ a. IsImage a layout image) same (image_of (unit functions items) layout size main buffer len instrs image sized m b i l held code (state ∙ ap (state_at layout) mem))
 
 -- where the layout does not hold it
 pub not_held : (asm : AsmUnit) (functions : List AsmFunction) (items : List DataItem) (layout : Layout) (size main buffer len : ℕ) (instrs : List AsmInstr) → functions ≡ asm.functions → items ≡ asm.items → size ≡ data_size items → main ≡ main_number functions → buffer ≡ size - 1 → instrs ≡ start_code main buffer ++ code_of functions → len ≡ length instrs → holds layout (4 * len) size ≡ false → holds layout (code_size asm) (data_size asm.items) ≡ false

@@ -3,7 +3,6 @@ pub mod Codes
 pub mod Images
 pub mod Loads
 pub mod Outputs
-pub mod Ranges
 pub mod RunSteps
 pub mod Spaces
 pub mod Simulations

@@ -23,10 +23,6 @@ next_of Stuck s out = Sticks
 abbrev pub instr_of : Instr → LoadedInstr
 instr_of i = record { name = i.name; rd = i.rd; rs1 = i.rs1; rs2 = i.rs2; value = i.value }
 
--- the three registers are there
-abbrev pub IsInRange : Instr → Type 0
-IsInRange i = (i.rd < 32) × (i.rs1 < 32) × (i.rs2 < 32)
-
 -- the program reaches this memory
 pub record Reaches (p : LoadedProgram) (space : Space) : Type 0 where
   pub layout : p.layout ≡ space.layout

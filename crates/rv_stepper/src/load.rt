@@ -4,7 +4,6 @@ ghost use Rattle.cp_base.specs.Regions.{holds};
 ghost use Rattle.rv_code.specs.Places.{main_number};
 ghost use Rattle.rv_code.specs.Sizes.{data_size};
 ghost use Rattle.rv_code.specs.Loading.{loaded_from, code_size};
-ghost use Rattle.rv_code.specs.WellFormed.{IsWellFormed};
 ghost use Rattle.rv_stepper.specs.Starts.{AreStarts};
 ghost use Rattle.rv_stepper.specs.States.{instr_of};
 ghost use Rattle.rv_stepper.specs.Images.{IsImage};
@@ -28,7 +27,6 @@ pub struct Image {
 
 /// The unit in memory, where the layout holds it.
 pub fn load(alloc: Global, asm: &AsmUnit, layout: &Layout) -> Result<Option<Image>, AllocError>
-    requires { IsWellFormed asm.now }
     ensures { IfOk result (λ o. MatchOption o (holds layout.now (code_size asm.now) (data_size asm.now.items) ≡ false) (λ image. IsImage asm.now layout.now image)) }
 {
     let functions = asm.functions.as_slice();
@@ -94,9 +92,9 @@ fn main_number(functions: &[AsmFunction]) -> usize
 
 // The state at the start.
 fn first_state(layout: &Layout, memory: Memory) -> State
-    ensures { result ≡ record { pc = layout.now.code; registers = slice_set (replicate 32 0) 2 layout.now.top; memory = memory; taken = 0 } }
+    ensures { result ≡ record { pc = layout.now.code; registers = slice_set (replicate 256 0) 2 layout.now.top; memory = memory; taken = 0 } }
 {
-    let mut registers = [0; 32];
+    let mut registers = [0; 256];
     registers[2] = layout.top;
     State {
         pc: layout.code,

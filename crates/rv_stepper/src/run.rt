@@ -2,7 +2,7 @@
 ghost use Rattle.std.specs.Prelude.{◌≡◌, [], ◌≤◌, All, IfOk, OnErr};
 ghost use Rattle.cp_base.specs.Outside.{Rose, last_count, gained, GainsFront};
 ghost use Rattle.rv_code.specs.Machine.{LoadedProgram, run};
-ghost use Rattle.rv_stepper.specs.States.{machine_of, IsInRange};
+ghost use Rattle.rv_stepper.specs.States.{machine_of};
 ghost use Rattle.rv_stepper.specs.Output.{IsOf, HasRun};
 
 use crate::output::Waiting;
@@ -23,8 +23,7 @@ pub fn run<O: Sink>(
     waiting: &mut Waiting,
     out: &mut O,
 ) -> Result<RvOutcome, Failed>
-    requires range { All IsInRange code.now }
-    requires empty { waiting.old ≡ [] }
+    requires { waiting.old ≡ [] }
     ensures count { O.faults out.old ≤ O.faults out.new }
     ensures bound { O.faults out.old ≤ last_count → O.faults out.new ≤ last_count }
     ensures ok { IfOk result (λ outcome. (p : LoadedProgram) → IsOf p code.now state.old → HasRun (O.written out.old) (O.written out.new) outcome (run p input.now steps (machine_of state.old []))) }

@@ -2,9 +2,8 @@
 ghost use Rattle.std.specs.Prelude.{◌≡◌, [], ◌≤◌, All, IfOk, IfErr};
 ghost use Rattle.cp_base.specs.Outside.{last_count};
 ghost use Rattle.rv_code.specs.Machine.{LoadedProgram, run, rv_run};
-ghost use Rattle.rv_code.specs.WellFormed.{IsWellFormed};
 ghost use Rattle.rv_stepper.specs.Simulation.{Answers, Refuses};
-ghost use Rattle.rv_stepper.specs.States.{machine_of, IsInRange};
+ghost use Rattle.rv_stepper.specs.States.{machine_of};
 ghost use Rattle.rv_stepper.specs.Output.{IsOf, HasRun};
 
 use crate::load::{Image, load};
@@ -24,7 +23,6 @@ pub fn simulate<O: Sink>(
     steps: u64,
     out: &mut O,
 ) -> Result<RvOutcome, RunFault>
-    requires { IsWellFormed asm.now }
     ensures count { O.faults out.old ≤ O.faults out.new }
     ensures bound { O.faults out.old ≤ last_count → O.faults out.new ≤ last_count }
     ensures ok { IfOk result (λ outcome. Answers (O.written out.old) (O.written out.new) outcome (rv_run asm.now layout.now (λ _. 0) input.now steps)) }
@@ -48,8 +46,7 @@ fn run_image<O: Sink>(
     waiting: &mut Waiting,
     out: &mut O,
 ) -> Result<RvOutcome, RunFault>
-    requires range { All IsInRange image.old.code.items }
-    requires empty { waiting.old ≡ [] }
+    requires { waiting.old ≡ [] }
     ensures count { O.faults out.old ≤ O.faults out.new }
     ensures bound { O.faults out.old ≤ last_count → O.faults out.new ≤ last_count }
     ensures ok { IfOk result (λ outcome. (p : LoadedProgram) → IsOf p image.old.code.items image.old.state → HasRun (O.written out.old) (O.written out.new) outcome (run p input.now steps (machine_of image.old.state []))) }

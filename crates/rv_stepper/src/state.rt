@@ -4,7 +4,7 @@ ghost use Rattle.std.specs.Option.{option_map};
 ghost use Rattle.rv_code.specs.Machine.{LoadedProgram, Goes, gives, jumps, branches, loads, stores, reads_byte, writes_byte, environment_call, fetched, obeys, step};
 ghost use Rattle.rv_stepper.specs.Space.{width_of, extended, may_access};
 ghost use Rattle.rv_stepper.specs.Effects.{does};
-ghost use Rattle.rv_stepper.specs.States.{machine_of, next_of, is_called, word_of_register, instr_of, IsInRange, Reaches, Keeps};
+ghost use Rattle.rv_stepper.specs.States.{machine_of, next_of, is_called, word_of_register, instr_of, Reaches, Keeps};
 
 use crate::effect::{Effect, effect_of};
 use crate::memory::Memory;
@@ -40,11 +40,12 @@ pub enum Stepped {
     Stuck,
 }
 
-/// The state between two instructions, but for the output.
+/// The state between two instructions, but for the output. An instruction names a register by a byte, so
+/// there is a word for each byte; a well-formed unit names the first 32 alone.
 #[derive(Drop)]
 pub struct State {
     pub pc: u32,
-    pub registers: [u32; 32],
+    pub registers: [u32; 256],
     pub memory: Memory,
     pub taken: usize,
 }
@@ -53,7 +54,6 @@ impl State {
     // The word of a register.
     #[inline(always)]
     fn word(&self, register: u8) -> u32
-        requires { register < 32 }
         ensures { result ≡ word_of_register self.now.registers register }
     {
         if register == 0 {
@@ -66,7 +66,6 @@ impl State {
     // A word into a register, and on.
     #[inline(always)]
     fn put(&mut self, rd: u8, word: u32)
-        requires { rd < 32 }
         ensures step { (out : List ℕ) → Goes (machine_of self.new out) ≡ gives (machine_of self.old out) rd word }
         ensures memory { self.new.memory ≡ self.old.memory }
     {
@@ -76,7 +75,6 @@ impl State {
 
     #[inline(always)]
     fn give(&mut self, rd: u8, word: u32) -> Stepped
-        requires { rd < 32 }
         ensures step { (out : List ℕ) → next_of result self.new out ≡ gives (machine_of self.old out) rd word }
         ensures memory { self.new.memory ≡ self.old.memory }
     {
@@ -86,7 +84,6 @@ impl State {
 
     #[inline(always)]
     fn jump(&mut self, rd: u8, target: u32) -> Stepped
-        requires { rd < 32 }
         ensures step { (out : List ℕ) → next_of result self.new out ≡ jumps (machine_of self.old out) rd target }
         ensures memory { self.new.memory ≡ self.old.memory }
     {
@@ -107,7 +104,6 @@ impl State {
 
     #[inline(always)]
     fn load(&mut self, kind: Kind, address: u32, rd: u8) -> Stepped
-        requires { rd < 32 }
         ensures step { (p : LoadedProgram) (out : List ℕ) → Reaches p self.old.memory → next_of result self.new out ≡ loads p (machine_of self.old out) rd address (width_of kind) (extended kind) }
         ensures memory { self.new.memory ≡ self.old.memory }
     {
@@ -188,7 +184,6 @@ impl State {
     // What the instruction does, done.
     #[inline(always)]
     fn perform(&mut self, effect: Effect, rd: u8, two: u32, value: u32, input: &[u8]) -> Stepped
-        requires { rd < 32 }
         ensures step { (p : LoadedProgram) (out : List ℕ) → Reaches p self.old.memory → next_of result self.new out ≡ does p input.now (machine_of self.old out) rd two value effect }
         ensures kept { Keeps self.old.memory self.new.memory }
     {
@@ -205,8 +200,7 @@ impl State {
     // The instruction at the program counter, if there is one.
     #[inline(always)]
     fn fetch(&self, code: &[Instr]) -> Option<Instr>
-        ensures value { (p : LoadedProgram) → p.layout ≡ self.now.memory.layout → p.code ≡ map instr_of code.now → option_map instr_of result ≡ fetched p self.now.pc }
-        ensures found { IfSome result (λ i. Contains code.now i) }
+        ensures { (p : LoadedProgram) → p.layout ≡ self.now.memory.layout → p.code ≡ map instr_of code.now → option_map instr_of result ≡ fetched p self.now.pc }
     {
         let start = self.memory.code();
         if self.pc % 4 == 0 && start <= self.pc {
@@ -219,7 +213,6 @@ impl State {
     /// One step.
     #[inline(always)]
     pub fn step(&mut self, code: &[Instr], input: &[u8]) -> Stepped
-        requires { All IsInRange code.now }
         ensures step { (p : LoadedProgram) (out : List ℕ) → Reaches p self.old.memory → p.code ≡ map instr_of code.now → next_of result self.new out ≡ step p input.now (machine_of self.old out) }
         ensures kept { Keeps self.old.memory self.new.memory }
     {
@@ -231,7 +224,6 @@ impl State {
 
     #[inline(always)]
     fn obey(&mut self, instr: Instr, input: &[u8]) -> Stepped
-        requires { IsInRange instr }
         ensures step { (p : LoadedProgram) (out : List ℕ) → Reaches p self.old.memory → next_of result self.new out ≡ obeys p input.now (machine_of self.old out) (Some (instr_of instr)) }
         ensures kept { Keeps self.old.memory self.new.memory }
     {
