@@ -1,10 +1,18 @@
 // A unit made by hand, and texts of the first form.
 use crate::programs::{LAYOUT, outcome_of, put, unit_of};
-use cp_base::Items;
+use cp_base::{Items, Layout};
 use cp_first::compile_first;
 use rv_code::{AsmInstr, AsmLine, AsmLines, AsmUnit, Operand, RvName, RvOutcome, Symbol};
 use std::alloc::{AllocError, Global};
 use std::test::Fail;
+
+// Where the program places what it compiles.
+static PROGRAM: Layout = Layout {
+    code: 65536,
+    cdata: 268_435_456,
+    top: 2_147_483_648,
+    stack: 1_048_576,
+};
 
 // `putchar` of the byte.
 fn put_call(lines: &mut AsmLines, byte: i32) -> Result<(), AllocError> {
@@ -42,9 +50,9 @@ fn unit_of_hi(alloc: Global) -> Result<AsmUnit, AllocError> {
 #[test]
 fn stepper_by_hand(rt: HostRuntime) -> Result<(), Fail> {
     let unit = unit_of_hi(rt.alloc())?;
-    let ended = outcome_of(rt.alloc(), &unit, &LAYOUT, b"", 1000, b"Hi")?;
+    let ended = outcome_of(rt.alloc(), &unit, &PROGRAM, b"", 1000, b"Hi")?;
     assert!(rt; ended == Some(RvOutcome::Ended(0)));
-    let running = outcome_of(rt.alloc(), &unit, &LAYOUT, b"", 0, b"")?;
+    let running = outcome_of(rt.alloc(), &unit, &PROGRAM, b"", 0, b"")?;
     assert!(rt; running == Some(RvOutcome::Running));
     Ok(())
 }
