@@ -1,0 +1,13 @@
+pub mod Bytes
+pub mod CallLaws
+pub mod Groups
+pub mod Locals
+pub mod Memory
+pub mod Opening
+pub mod Resume
+pub mod Growth
+pub mod Stmts
+pub mod TurnLaws
+pub mod RoundLaws
+pub mod OutputLaws
+pub mod Starts

@@ -1,0 +1,11 @@
+use Rattle.std.proofs.Common.{◌≡◌, ◌+◌, ◌==◌, drop}
+use Rattle.std.specs.List.{list_any}
+use Rattle.c_meaning.specs.Meaning.{groups_before}
+use Rattle.c_interpreter.proofs.labels.labelled.Given as goal
+
+-- the groups before this one were passed
+abbrev pub invariant-loop-group : goal.invariant-loop-group
+invariant-loop-group l = record {
+  before : l.before ≡ l.group-index;
+  passed : groups_before (λ g. list_any (λ label. label == l.word) g.labels) l.groups ≡ l.group-index + groups_before (λ g. list_any (λ label. label == l.word) g.labels) (drop l.group-index l.groups);
+}

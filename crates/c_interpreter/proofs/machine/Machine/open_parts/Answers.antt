@@ -1,0 +1,59 @@
+use Rattle.c_interpreter.specs.Leading.{expr_meaning}
+use Rattle.c_interpreter.specs.Weights.{size}
+use Rattle.c_interpreter.proofs.Opening.{open_set_local, open_load, open_store, open_binary, open_convert, open_both, open_either, open_choose, open_seq, open_put_char, open_copy}
+use Rattle.c_interpreter.proofs.machine.Machine.open_parts.Goals as goal
+
+pub returns-in-SetLocal : goal.returns-in-SetLocal
+returns-in-SetLocal c =
+    c.push.ensures c.args.place.now (expr_meaning c.args.expr.now) (size c.args.expr.now)
+    (open_set_local _ _ _ _ c.in-SetLocal.is c.get.ensures) c.requires.sound
+
+pub returns-in-Load : goal.returns-in-Load
+returns-in-Load c =
+    c.push-in-Load.ensures c.args.place.now (expr_meaning c.args.expr.now) (size c.args.expr.now)
+    (open_load _ _ _ _ c.in-Load.is c.get-in-Load.ensures) c.requires.sound
+
+pub returns-in-Store : goal.returns-in-Store
+returns-in-Store c =
+    c.push-in-Store.ensures c.args.place.now (expr_meaning c.args.expr.now) (size c.args.expr.now)
+    (open_store _ _ _ _ _ _ c.in-Store.is c.get-in-Store-2.ensures c.get-in-Store.ensures) c.requires.sound
+
+pub returns-in-Binary : goal.returns-in-Binary
+returns-in-Binary c =
+    c.push-in-Binary.ensures c.args.place.now (expr_meaning c.args.expr.now) (size c.args.expr.now)
+    (open_binary _ _ _ _ _ _ c.in-Binary.is c.get-in-Binary-2.ensures c.get-in-Binary.ensures) c.requires.sound
+
+pub returns-in-Convert : goal.returns-in-Convert
+returns-in-Convert c =
+    c.push-in-Convert.ensures c.args.place.now (expr_meaning c.args.expr.now) (size c.args.expr.now)
+    (open_convert _ _ _ _ c.in-Convert.is c.get-in-Convert.ensures) c.requires.sound
+
+pub returns-in-Both : goal.returns-in-Both
+returns-in-Both c =
+    c.push-in-Both.ensures c.args.place.now (expr_meaning c.args.expr.now) (size c.args.expr.now)
+    (open_both _ _ _ _ _ c.in-Both.is c.get-in-Both-2.ensures c.get-in-Both.ensures) c.requires.sound
+
+pub returns-in-Either : goal.returns-in-Either
+returns-in-Either c =
+    c.push-in-Either.ensures c.args.place.now (expr_meaning c.args.expr.now) (size c.args.expr.now)
+    (open_either _ _ _ _ _ c.in-Either.is c.get-in-Either-2.ensures c.get-in-Either.ensures) c.requires.sound
+
+pub returns-in-Choose : goal.returns-in-Choose
+returns-in-Choose c =
+    c.push-in-Choose.ensures c.args.place.now (expr_meaning c.args.expr.now) (size c.args.expr.now)
+    (open_choose _ _ _ _ _ _ _ c.in-Choose.is c.get-in-Choose-3.ensures c.get-in-Choose.ensures c.get-in-Choose-2.ensures) c.requires.sound
+
+pub returns-in-Seq : goal.returns-in-Seq
+returns-in-Seq c =
+    c.push-in-Seq.ensures c.args.place.now (expr_meaning c.args.expr.now) (size c.args.expr.now)
+    (open_seq _ _ _ _ _ c.in-Seq.is c.get-in-Seq-2.ensures c.get-in-Seq.ensures) c.requires.sound
+
+pub returns-in-PutChar : goal.returns-in-PutChar
+returns-in-PutChar c =
+    c.push-in-PutChar.ensures c.args.place.now (expr_meaning c.args.expr.now) (size c.args.expr.now)
+    (open_put_char _ _ _ c.in-PutChar.is c.get-in-PutChar.ensures) c.requires.sound
+
+pub returns-in-Copy : goal.returns-in-Copy
+returns-in-Copy c =
+    c.push-in-Copy.ensures c.args.place.now (expr_meaning c.args.expr.now) (size c.args.expr.now)
+    (open_copy _ _ _ _ _ _ _ c.in-Copy.is c.get-in-Copy-2.ensures c.get-in-Copy.ensures) c.requires.sound
