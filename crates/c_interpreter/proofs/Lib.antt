@@ -5,6 +5,7 @@ pub mod Locals
 pub mod Memory
 pub mod Opening
 pub mod Resume
+pub mod Plain
 pub mod Growth
 pub mod Stmts
 pub mod TurnLaws

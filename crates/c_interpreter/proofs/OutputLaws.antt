@@ -121,6 +121,7 @@ module _ (place : Place) (ran : Ran) (bound : ℕ) (old : Option (List ℕ)) whe
   pub broken : (c : Configuration) (t : Task) (now new : Option (List ℕ)) (faults_old faults_now faults_new : ℕ) → IsOnWay place ran bound old c t now
       → GainsFront now new c.out → faults_old ≤ faults_now → Rose faults_now faults_new → Refuses WriteFault old new faults_old faults_new ran.out
   broken c t now new faults_old faults_now faults_new way front grown rose =
-      let rest = on_way_grows c t now way in
-      (subst (GainsFront old new) (sym rest.is) (GainsFront-more old new (way.before ++ c.out) rest.rest (GainsFront-after old now new way.before c.out way.told front)),
-      rose_since faults_old faults_now faults_new grown rose)
+      let rest = on_way_grows c t now way in (
+        subst (GainsFront old new) (sym rest.is) (GainsFront-more old new (way.before ++ c.out) rest.rest (GainsFront-after old now new way.before c.out way.told front)),
+        rose_since faults_old faults_now faults_new grown rose,
+      )

@@ -1,5 +1,5 @@
 -- What a step of the interpreter keeps. No public clause names it.
-use Rattle.std.specs.Prelude.{◌≡◌, ℕ, ◌+◌, ◌<◌, ◌≤◌, List, [], length, take, drop, slice_set, Option, None}
+use Rattle.std.specs.Prelude.{◌≡◌, ℕ, ◌+◌, ◌<◌, ◌≤◌, List, [], length, take, drop, slice_set, Option, Some, None}
 use Rattle.run_model.specs.Stores.{World}
 use Rattle.c_types.specs.declared.tree.Expr.{Expr}
 use Rattle.c_types.specs.declared.tree.Stmt.{Stmt}
@@ -67,6 +67,10 @@ Leads place c t d s = LeadsFrom place c (task_meaning t) (task_weight t) d s
 -- from a signal to the last frame, which was taken away
 abbrev pub Continues : Place → Configuration → Frame → Signal → Configuration → Task → Type 0
 Continues place c f signal d s = LeadsFrom place c (frame_meaning f signal) (frame_weight f) d s
+
+-- the expression has this value at this moment, and changes nothing
+pub record IsPlain (c : Configuration) (e : Expr) (word : ℕ) : Type 0 where
+  pub run : (u : Whole) (w : World) (again : Stmt → Step Flow) (before : List ℕ) → eval u w again e (state_of before c) ≡ Gives (Some word) (state_of before c)
 
 -- the value of one local was set
 pub record SetsLocal (c : Configuration) (x : ℕ) (value : Option ℕ) (d : Configuration) : Type 0 where

@@ -8,7 +8,8 @@ use Rattle.c_types.specs.declared.tree.Stmt.{Stmt}
 use Rattle.c_types.specs.declared.tree.Func.{Func}
 use Rattle.c_types.specs.declared.tree.Unit.{Unit as Whole}
 use Rattle.c_types.specs.declared.tree.Expr.{Expr}
-use Rattle.c_types.specs.Forms.{const, address, local, get_char, call, expr_row, stmt_row, group_row}
+use Rattle.c_types.specs.declared.tree.Expr as expr
+use Rattle.c_types.specs.Forms.{expr_row, stmt_row, group_row}
 use Rattle.c_meaning.specs.Steps.{State, Result, Gives, Stops, Step, pure, stop, and_then, ◌>>=◌, ◌>>◌, choice, known, is_true, turn, write_local, read_data, write_data, copy_data, write_byte, operate}
 use Rattle.c_meaning.specs.Meaning.{Flow, Normal, Breaks, Continues, Returns, value, used, value_of, left, if_normal, if_goes_on, ended_by_break, passed, call_of, eval, eval_all, holds, dropped, exec, exec_all, exec_from}
 use Rattle.c_interpreter.specs.declared.frame.Frame.{Frame}
@@ -186,43 +187,32 @@ abbrev pub known_task : Option ℕ → Task
 known_task (Some v) = task.Value (Some v)
 known_task None = task.Stop Undefined
 
--- a frame that wants a value which is there
-abbrev pub WantsValue : Frame → Type 0
-WantsValue (frame.Seq r) = ⊥
-WantsValue frame.Drop = ⊥
-WantsValue (frame.LoopStep whole) = ⊥
-WantsValue f = Unit {0}
+-- a frame that is rarer than these
+abbrev pub IsRarerFrame : Frame → Type 0
+IsRarerFrame (frame.Seq r) = ⊥
+IsRarerFrame frame.Drop = ⊥
+IsRarerFrame (frame.LoopStep whole) = ⊥
+IsRarerFrame (frame.SetLocal x) = ⊥
+IsRarerFrame (frame.BinaryLeft op r) = ⊥
+IsRarerFrame (frame.Binary op a) = ⊥
+IsRarerFrame (frame.Load kind) = ⊥
+IsRarerFrame (frame.StoreTo kind e) = ⊥
+IsRarerFrame (frame.Store kind to) = ⊥
+IsRarerFrame (frame.Choose a b) = ⊥
+IsRarerFrame (frame.Arguments es) = ⊥
+IsRarerFrame frame.Return = ⊥
+IsRarerFrame (frame.If a b) = ⊥
+IsRarerFrame (frame.LoopTest whole step body) = ⊥
+IsRarerFrame f = Unit {0}
 
--- a frame that is none of those which only compute
-abbrev pub ChangesOrJumps : Frame → Type 0
-ChangesOrJumps (frame.Seq r) = ⊥
-ChangesOrJumps frame.Drop = ⊥
-ChangesOrJumps (frame.LoopStep whole) = ⊥
-ChangesOrJumps (frame.StoreTo kind e) = ⊥
-ChangesOrJumps (frame.CopyTo size align from) = ⊥
-ChangesOrJumps (frame.BinaryLeft op r) = ⊥
-ChangesOrJumps (frame.Binary op a) = ⊥
-ChangesOrJumps (frame.Convert to) = ⊥
-ChangesOrJumps (frame.Both r) = ⊥
-ChangesOrJumps (frame.Either r) = ⊥
-ChangesOrJumps (frame.Choose a b) = ⊥
-ChangesOrJumps (frame.Load kind) = ⊥
-ChangesOrJumps (frame.Arguments es) = ⊥
-ChangesOrJumps f = Unit {0}
-
--- nor one of those which change the locals, the data or the output
-abbrev pub Jumps : Frame → Type 0
-Jumps (frame.SetLocal x) = ⊥
-Jumps (frame.Store kind to) = ⊥
-Jumps (frame.Copy size align to) = ⊥
-Jumps frame.PutChar = ⊥
-Jumps f = ChangesOrJumps f
-
--- an expression whose value comes from the values of its parts
-abbrev pub HasParts : Expr → Type 0
-HasParts (const n) = ⊥
-HasParts (address object addend) = ⊥
-HasParts (local x) = ⊥
-HasParts get_char = ⊥
-HasParts (call function n arguments) = ⊥
-HasParts e = Unit {0}
+-- an expression that is rarer than these
+abbrev pub IsRarer : Expr → Type 0
+IsRarer (expr.Const n) = ⊥
+IsRarer (expr.Address object addend) = ⊥
+IsRarer (expr.Local x) = ⊥
+IsRarer (expr.SetLocal' x shape row) = ⊥
+IsRarer (expr.Load' kind shape row) = ⊥
+IsRarer (expr.Store' kind shape row other_shape other_row) = ⊥
+IsRarer (expr.Binary' op shape row other_shape other_row) = ⊥
+IsRarer (expr.Call' function n arguments) = ⊥
+IsRarer e = Unit {0}

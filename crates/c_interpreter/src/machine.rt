@@ -1,13 +1,15 @@
 // The state of a run, and its steps.
-ghost use Rattle.std.specs.Prelude.{◌≡◌, ℕ, ◌++◌, ◌==◌, ◌∷◌, [], ◌≤◌, length, drop, slice_get, OnOk, OnErr, IfOk, MatchOption, Some};
-ghost use Rattle.c_types.specs.Forms.{get_char};
+ghost use Rattle.std.specs.Prelude.{◌≡◌, ℕ, ◌++◌, ◌==◌, ◌∷◌, [], ◌≤◌, length, drop, slice_get, OnOk, OnErr, IfOk, IfSome, MatchOption, Some};
+ghost use Rattle.c_types.specs.Forms.{get_char, put_char, binary};
+ghost use Rattle.c_interpreter.specs.Weights.{size};
 ghost use Rattle.c_types.specs.Placing.{number_of, object_offsets};
 ghost use Rattle.c_meaning.specs.Steps.{value_at};
-ghost use Rattle.c_interpreter.specs.Machine.{seen, with_frame, Gave, WantsValue, ChangesOrJumps, HasParts, known_task, IsSound};
-ghost use Rattle.c_interpreter.specs.Leading.{Leads, LeadsFrom, Continues, SetsLocal, IsPlaced, Meaning, Opens, expr_meaning};
+ghost use Rattle.c_interpreter.specs.Machine.{seen, with_frame, Gave, IsRarer, IsRarerFrame, known_task, IsSound};
+ghost use Rattle.c_interpreter.specs.Leading.{Leads, LeadsFrom, Continues, SetsLocal, IsPlaced, Meaning, Opens, IsPlain, expr_meaning};
 
 use crate::data::{copy, load, store};
 use crate::frame::{Ending, Frame, Task};
+use crate::labels::passed;
 use crate::operators::operate;
 use c_types::{COp, CellValue, Expr, Func, Group, Kind, Stmt, To, Unit};
 use cp_base::{Op, apply};
@@ -62,21 +64,6 @@ impl<'u> Machine<'u> {
             Expr::Const(word) => Ok(Task::Value(Some(*word))),
             Expr::Address(object, addend) => Ok(Task::Value(Some(place.address(*object, *addend)))),
             Expr::Local(local) => Ok(known(self.local(*local))),
-            Expr::GetChar => Ok(self.get_char(place)),
-            Expr::Call(function, arguments) => {
-                self.push(Frame::CallTo(*function), Task::Exprs(arguments.as_slice()))
-            }
-            _ => self.open_parts(place, expr),
-        }
-    }
-
-    fn open_parts(&mut self, place: &Place<'u>, expr: &'u Expr) -> Result<Task<'u>, AllocError>
-        requires placed { IsPlaced place.now }
-        requires sound { IsSound (seen self.old) }
-        requires parts { HasParts expr.now }
-        ensures { IfOk result (λ next. Leads place.now (seen self.old) (Task.Expr expr.entry) (seen self.new) next) }
-    {
-        match expr {
             Expr::SetLocal(local, value) => {
                 self.push(Frame::SetLocal(*local), Task::Expr(value.get()))
             }
@@ -85,11 +72,22 @@ impl<'u> Machine<'u> {
                 self.push(Frame::StoreTo(*kind, value.get()), Task::Expr(at.get()))
             }
             Expr::Binary(operator, left, right) => {
-                self.push(
-                    Frame::BinaryLeft(*operator, right.get()),
-                    Task::Expr(left.get()),
-                )
+                self.open_operator(place, *operator, left.get(), right.get())
             }
+            Expr::Call(function, arguments) => {
+                self.push(Frame::CallTo(*function), Task::Exprs(arguments.as_slice()))
+            }
+            _ => self.open_rarer(place, expr),
+        }
+    }
+
+    fn open_rarer(&mut self, place: &Place<'u>, expr: &'u Expr) -> Result<Task<'u>, AllocError>
+        requires sound { IsSound (seen self.old) }
+        requires rarer { IsRarer expr.now }
+        ensures { IfOk result (λ next. Leads place.now (seen self.old) (Task.Expr expr.entry) (seen self.new) next) }
+    {
+        match expr {
+            Expr::GetChar => Ok(self.get_char(place)),
             Expr::Convert(to, value) => self.push(Frame::Convert(*to), Task::Expr(value.get())),
             Expr::Both(left, right) => self.push(Frame::Both(right.get()), Task::Expr(left.get())),
             Expr::Either(left, right) => {
@@ -102,7 +100,7 @@ impl<'u> Machine<'u> {
                 )
             }
             Expr::Seq(left, right) => self.push(Frame::Seq(right.get()), Task::Expr(left.get())),
-            Expr::PutChar(value) => self.push(Frame::PutChar, Task::Expr(value.get())),
+            Expr::PutChar(value) => self.open_put_char(place, value.get()),
             Expr::Copy(size, align, to, from) => {
                 self.push(
                     Frame::CopyTo(*size, *align, from.get()),
@@ -112,8 +110,49 @@ impl<'u> Machine<'u> {
             Expr::Const(_)
             | Expr::Address(_, _)
             | Expr::Local(_)
-            | Expr::GetChar
+            | Expr::SetLocal(_, _)
+            | Expr::Load(_, _)
+            | Expr::Store(_, _, _)
+            | Expr::Binary(_, _, _)
             | Expr::Call(_, _) => unreachable!(),
+        }
+    }
+
+    fn open_operator(
+        &mut self,
+        place: &Place<'u>,
+        operator: COp,
+        left: &'u Expr,
+        right: &'u Expr,
+    ) -> Result<Task<'u>, AllocError>
+        requires { IsSound (seen self.old) }
+        ensures { IfOk result (λ next. LeadsFrom place.now (seen self.old) (expr_meaning (binary operator left.now right.now)) (size (binary operator left.now right.now)) (seen self.new) next) }
+    {
+        match self.plain_value(left) {
+            Some(left) => self.operate(place, operator, left, right),
+            None => self.push(Frame::BinaryLeft(operator, right), Task::Expr(left)),
+        }
+    }
+
+    fn open_put_char(&mut self, place: &Place<'u>, value: &'u Expr) -> Result<Task<'u>, AllocError>
+        requires { IsSound (seen self.old) }
+        ensures { IfOk result (λ next. LeadsFrom place.now (seen self.old) (expr_meaning (put_char value.now)) (size (put_char value.now)) (seen self.new) next) }
+    {
+        match self.plain_value(value) {
+            Some(word) => self.put_char(place, word),
+            None => self.push(Frame::PutChar, Task::Expr(value)),
+        }
+    }
+
+    // The value of an expression that has no parts and changes nothing, where it has one.
+    fn plain_value(&self, expr: &Expr) -> Option<u32>
+        requires { IsSound (seen self.now) }
+        ensures { IfSome result (λ word. IsPlain (seen self.now) expr.now word) }
+    {
+        match expr {
+            Expr::Const(word) => Some(*word),
+            Expr::Local(local) => self.local(*local),
+            _ => None,
         }
     }
 
@@ -127,27 +166,14 @@ impl<'u> Machine<'u> {
         requires { IsSound (seen self.old) }
         ensures { IfOk result (λ next. Continues place.now (seen self.old) frame.entry (Gave word) (seen self.new) next) }
     {
-        match frame {
-            Frame::Seq(right) => Ok(Task::Expr(right)),
-            Frame::Drop => Ok(Task::Ending(Ending::Normal)),
-            Frame::LoopStep(whole) => Ok(Task::Turn(whole)),
-            _ => self.give_known(place, frame, word),
-        }
-    }
-
-    fn give_known(
-        &mut self,
-        place: &Place<'u>,
-        frame: Frame<'u>,
-        word: Option<u32>,
-    ) -> Result<Task<'u>, AllocError>
-        requires sound { IsSound (seen self.old) }
-        requires wants { WantsValue frame }
-        ensures { IfOk result (λ next. Continues place.now (seen self.old) frame.entry (Gave word) (seen self.new) next) }
-    {
         match word {
             Some(word) => self.go_on(place, frame, word),
-            None => Ok(Task::Stop(Outcome::Undefined)),
+            None => Ok(match frame {
+                Frame::Seq(right) => Task::Expr(right),
+                Frame::Drop => Task::Ending(Ending::Normal),
+                Frame::LoopStep(whole) => Task::Turn(whole),
+                _ => Task::Stop(Outcome::Undefined),
+            }),
         }
     }
 
@@ -157,51 +183,114 @@ impl<'u> Machine<'u> {
         frame: Frame<'u>,
         word: u32,
     ) -> Result<Task<'u>, AllocError>
-        requires sound { IsSound (seen self.old) }
-        requires wants { WantsValue frame }
+        requires { IsSound (seen self.old) }
         ensures { IfOk result (λ next. Continues place.now (seen self.old) frame.entry (Gave (Some word)) (seen self.new) next) }
     {
         match frame {
-            Frame::StoreTo(kind, value) => self.push(Frame::Store(kind, word), Task::Expr(value)),
-            Frame::CopyTo(size, align, from) => {
-                self.push(Frame::Copy(size, align, word), Task::Expr(from))
+            Frame::Seq(right) => Ok(Task::Expr(right)),
+            Frame::Drop => Ok(Task::Ending(Ending::Normal)),
+            Frame::LoopStep(whole) => Ok(Task::Turn(whole)),
+            Frame::SetLocal(local) => {
+                self.set_local(local, Some(word));
+                Ok(Task::Value(Some(word)))
             }
-            Frame::BinaryLeft(operator, right) => {
-                self.push(Frame::Binary(operator, word), Task::Expr(right))
-            }
+            Frame::BinaryLeft(operator, right) => self.operate(place, operator, word, right),
             Frame::Binary(operator, left) => Ok(known(operate(operator, left, word))),
-            Frame::Convert(to) => Ok(Task::Value(Some(apply(Op::Conv(to), word, 0)))),
-            Frame::Both(_) if word == 0 => Ok(Task::Value(Some(0))),
-            Frame::Either(_) if word != 0 => Ok(Task::Value(Some(1))),
-            Frame::Both(right) | Frame::Either(right) => {
-                self.push(Frame::Convert(To::Truth), Task::Expr(right))
-            }
-            Frame::Choose(first, second) => Ok(Task::Expr(if word == 0 { second } else { first })),
             Frame::Load(kind) => Ok(known(load(&self.bytes, place.base, kind, word))),
-            Frame::Arguments(rest) => self.push(Frame::Argument(word), Task::Exprs(rest)),
-            _ => self.go_on_changing(place, frame, word),
+            Frame::StoreTo(kind, value) => self.store_value(place, kind, word, value),
+            Frame::Store(kind, to) => Ok(self.store(place, kind, to, word)),
+            Frame::Choose(first, second) => Ok(Task::Expr(if word == 0 { second } else { first })),
+            Frame::Arguments(rest) => self.add_argument(place, word, rest),
+            Frame::Return => Ok(Task::Ending(Ending::Returns(Some(word)))),
+            Frame::If(first, second) => Ok(Task::Stmt(if word == 0 { second } else { first })),
+            Frame::LoopTest(_, _, _) if word == 0 => Ok(Task::Ending(Ending::Normal)),
+            Frame::LoopTest(whole, step, body) => {
+                self.push(Frame::LoopBody(whole, step), Task::Stmt(body))
+            }
+            _ => self.go_on_rarer(place, frame, word),
         }
     }
 
-    fn go_on_changing(
+    // The right operand of an operator, where the left one is known.
+    fn operate(
+        &mut self,
+        place: &Place<'u>,
+        operator: COp,
+        left: u32,
+        right: &'u Expr,
+    ) -> Result<Task<'u>, AllocError>
+        requires { IsSound (seen self.old) }
+        ensures { IfOk result (λ next. Continues place.now (seen self.old) (Frame.BinaryLeft operator right.entry) (Gave (Some left)) (seen self.new) next) }
+    {
+        match self.plain_value(right) {
+            Some(right) => Ok(known(operate(operator, left, right))),
+            None => self.push(Frame::Binary(operator, left), Task::Expr(right)),
+        }
+    }
+
+    // The value that is to be stored at an address.
+    fn store_value(
+        &mut self,
+        place: &Place<'u>,
+        kind: Kind,
+        to: u32,
+        value: &'u Expr,
+    ) -> Result<Task<'u>, AllocError>
+        requires { IsSound (seen self.old) }
+        ensures { IfOk result (λ next. Continues place.now (seen self.old) (Frame.StoreTo kind value.entry) (Gave (Some to)) (seen self.new) next) }
+    {
+        match self.plain_value(value) {
+            Some(word) => Ok(self.store(place, kind, to, word)),
+            None => self.push(Frame::Store(kind, to), Task::Expr(value)),
+        }
+    }
+
+    // One more argument is known; where it is the last, all are.
+    fn add_argument(
+        &mut self,
+        place: &Place<'u>,
+        word: u32,
+        rest: &'u [Expr],
+    ) -> Result<Task<'u>, AllocError>
+        requires { IsSound (seen self.old) }
+        ensures { IfOk result (λ next. Continues place.now (seen self.old) (Frame.Arguments rest.entry) (Gave (Some word)) (seen self.new) next) }
+    {
+        if !rest.is_empty() {
+            return self.push(Frame::Argument(word), Task::Exprs(rest));
+        }
+        self.arguments.clear();
+        self.arguments.push(word)?;
+        Ok(Task::Values)
+    }
+
+    fn go_on_rarer(
         &mut self,
         place: &Place<'u>,
         frame: Frame<'u>,
         word: u32,
     ) -> Result<Task<'u>, AllocError>
         requires sound { IsSound (seen self.old) }
-        requires wants { ChangesOrJumps frame }
+        requires rarer { IsRarerFrame frame }
         ensures { IfOk result (λ next. Continues place.now (seen self.old) frame.entry (Gave (Some word)) (seen self.new) next) }
     {
         match frame {
-            Frame::SetLocal(local) => {
-                self.set_local(local, Some(word));
-                Ok(Task::Value(Some(word)))
+            Frame::CopyTo(size, align, from) => {
+                self.push(Frame::Copy(size, align, word), Task::Expr(from))
             }
-            Frame::Store(kind, to) => Ok(self.store(place, kind, to, word)),
             Frame::Copy(size, align, to) => Ok(self.copy(place, size, align, to, word)),
+            Frame::Convert(to) => Ok(Task::Value(Some(apply(Op::Conv(to), word, 0)))),
+            Frame::Both(_) if word == 0 => Ok(Task::Value(Some(0))),
+            Frame::Either(_) if word != 0 => Ok(Task::Value(Some(1))),
+            Frame::Both(right) | Frame::Either(right) => {
+                self.push(Frame::Convert(To::Truth), Task::Expr(right))
+            }
             Frame::PutChar => self.put_char(place, word),
-            _ => self.go_on_stmt(place, frame, word),
+            Frame::Switch(groups) => {
+                self.push(Frame::SwitchEnd, Task::Groups(passed(word, groups), groups))
+            }
+            Frame::DoLoopTest(_) if word == 0 => Ok(Task::Ending(Ending::Normal)),
+            Frame::DoLoopTest(whole) => Ok(Task::Turn(whole)),
+            _ => Ok(Task::Stop(Outcome::Undefined)),
         }
     }
 

@@ -1,44 +1,15 @@
 // Steps of a run at statements.
-ghost use Rattle.std.specs.Prelude.{◌≡◌, ℕ, ◌∷◌, [], IfOk, MatchOption, Some, reverse};
-ghost use Rattle.c_interpreter.specs.Machine.{seen, Gave, Gathered, Finished, flow_of, Jumps, IsSound};
-ghost use Rattle.c_interpreter.specs.Leading.{Leads, Continues};
+ghost use Rattle.std.specs.Prelude.{◌≡◌, ℕ, ◌∷◌, [], IfOk, MatchOption, Some};
+ghost use Rattle.c_interpreter.specs.Machine.{seen, IsSound};
+ghost use Rattle.c_interpreter.specs.Leading.{Leads};
 
 use crate::frame::{Ending, Frame, Task};
-use crate::labels::passed;
 use crate::machine::{Machine, Place};
 use c_types::{Expr, Group, Stmt};
-use run_model::Outcome;
 use sqlite_items::Boxed;
 use std::alloc::AllocError;
 
 impl<'u> Machine<'u> {
-    pub fn go_on_stmt(
-        &mut self,
-        place: &Place<'u>,
-        frame: Frame<'u>,
-        word: u32,
-    ) -> Result<Task<'u>, AllocError>
-        requires sound { IsSound (seen self.old) }
-        requires wants { Jumps frame }
-        ensures { IfOk result (λ next. Continues place.now (seen self.old) frame.entry (Gave (Some word)) (seen self.new) next) }
-    {
-        match frame {
-            Frame::Return => Ok(Task::Ending(Ending::Returns(Some(word)))),
-            Frame::If(first, second) => Ok(Task::Stmt(if word == 0 { second } else { first })),
-            Frame::Switch(groups) => {
-                self.push(Frame::SwitchEnd, Task::Groups(passed(word, groups), groups))
-            }
-            Frame::LoopTest(_, _, _) | Frame::DoLoopTest(_) if word == 0 => {
-                Ok(Task::Ending(Ending::Normal))
-            }
-            Frame::LoopTest(whole, step, body) => {
-                self.push(Frame::LoopBody(whole, step), Task::Stmt(body))
-            }
-            Frame::DoLoopTest(whole) => Ok(Task::Turn(whole)),
-            _ => Ok(Task::Stop(Outcome::Undefined)),
-        }
-    }
-
     #[tactic(auto, using(crate::proofs::Locals::unset_done))]
     pub fn open_stmt(&mut self, place: &Place<'u>, stmt: &'u Stmt) -> Result<Task<'u>, AllocError>
         requires { IsSound (seen self.old) }
@@ -95,6 +66,7 @@ impl<'u> Machine<'u> {
         ensures { IfOk result (λ next. Leads place.now (seen self.old) (Task.Stmts stmts.entry) (seen self.new) next) }
     {
         match split(stmts) {
+            Some((first, rest)) if rest.is_empty() => Ok(Task::Stmt(first)),
             Some((first, rest)) => self.push(Frame::Stmts(rest), Task::Stmt(first)),
             None => Ok(Task::Ending(Ending::Normal)),
         }
