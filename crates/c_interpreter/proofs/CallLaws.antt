@@ -1,23 +1,17 @@
 -- Calls: their arguments, and their ends.
-use Rattle.std.proofs.Common.{◌≡◌, ℕ, suc, ◌+◌, ◌<◌, ◌≤◌, Bool, true, nat_lt, List, [], ◌∷◌, ◌++◌, length, take, drop, reverse, Option, Some, None, refl, sym, ap, ap₂, subst, ◌∙◌, arith, le_trans, le_refl}
+use Rattle.std.proofs.Common.{◌≡◌, ℕ, ◌≤◌, List, [], ◌∷◌, ◌++◌, length, take, reverse, Option, Some, None, refl, sym, ap, subst, arith}
 use Rattle.std.specs.Borrow.{Bor}
 use Rattle.std.proofs.lemmas.List.{take-take, length-take-le, reverse-append}
-use Rattle.std.proofs.Math.Seq.{take-append_seam, drop-append_seam}
-use Rattle.run_model.specs.Stores.{World}
 use Rattle.c_types.specs.declared.tree.Func.{Func}
-use Rattle.c_types.specs.declared.tree.Stmt.{Stmt}
-use Rattle.c_types.specs.declared.tree.Unit.{Unit as Whole}
-use Rattle.c_meaning.specs.Steps.{State, Result, Gives, Stops, Step, and_then, pure, with_store}
-use Rattle.c_meaning.specs.Meaning.{Flow, value_of, left, entered, first_locals, exec, call_of}
+use Rattle.c_meaning.specs.Steps.{Gives}
+use Rattle.c_meaning.specs.Meaning.{Flow, value_of}
 use Rattle.c_interpreter.specs.declared.frame.Frame.{Frame}
 use Rattle.c_interpreter.specs.declared.frame.Frame.TheVariants as frame
-use Rattle.c_interpreter.specs.declared.frame.Task.{Task}
 use Rattle.c_interpreter.specs.declared.frame.Task.TheVariants as task
 use Rattle.c_interpreter.specs.declared.machine.Place.{Place}
-use Rattle.c_interpreter.specs.Machine.{Signal, Gave, Gathered, Finished, Configuration, with_frame, state_of, means, IsSound, continue_with, resume, task_of, ends, gives, Nested, NestedIn, span_of, locals_of}
-use Rattle.c_interpreter.specs.Weights.{frames_weight, task_weight}
-use Rattle.c_interpreter.specs.Leading.{Meaning, LeadsFrom, Leads, Continues, world_of}
-use Rattle.c_interpreter.proofs.Resume.{changed, resume_push, nested_below}
+use Rattle.c_interpreter.specs.Machine.{Gathered, Finished, Configuration, with_frame, state_of, IsSound, Nested, NestedIn, span_of}
+use Rattle.c_interpreter.specs.Leading.{Continues, world_of}
+use Rattle.c_interpreter.proofs.Resume.{changed}
 use Rattle.c_interpreter.proofs.Locals.{resume_same}
 
 -- one more argument stands before those that were gathered

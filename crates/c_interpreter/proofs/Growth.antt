@@ -1,5 +1,5 @@
 -- The output only grows: whatever is left to do in a run, its output begins with what it was before.
-use Rattle.std.proofs.Common.{◌≡◌, ℕ, zero, suc, Bool, true, false, nat_lt, List, [], ◌∷◌, ◌++◌, Option, Some, None, reverse, refl, sym, ap, subst, ◌∙◌}
+use Rattle.std.proofs.Common.{◌≡◌, ℕ, zero, suc, Bool, true, false, nat_lt, List, [], ◌∷◌, ◌++◌, Option, Some, None, reverse, refl, sym, subst}
 use mathlib.Core.Former.{Count}
 use Rattle.cp_base.specs.declared.op.To.TheVariants.{Truth}
 use Rattle.cp_base.specs.Operations.{converted}
@@ -14,14 +14,14 @@ use Rattle.c_types.specs.declared.tree.Unit.{Unit as Whole}
 use Rattle.c_types.specs.Operators.{c_operator}
 use Rattle.c_types.specs.Forms.{ExprRow, no_exprs, an_expr, expr_row, StmtRow, no_stmts, a_stmt, stmt_row, GroupRow, no_groups, a_group, group_row}
 use Rattle.c_meaning.specs.Steps.{State, Result, Gives, Stops, Step, out_of, pure, stop, and_then, ◌>>=◌, ◌>>◌, choice, known, is_true, turn_of, turn, change_bytes}
-use Rattle.c_meaning.specs.Meaning.{Flow, Normal, Breaks, Continues, Returns, value, used, left, entered, if_normal, if_goes_on, call_body, call_of, eval, eval_all, holds, dropped, exec, exec_all, exec_from, at_turn}
+use Rattle.c_meaning.specs.Meaning.{Flow, Normal, Breaks, Continues, Returns, value, used, left, entered, if_normal, if_goes_on, call_body, call_of, eval, eval_all, dropped, exec, exec_all, exec_from, at_turn}
 use Rattle.c_meaning.proofs.Agreement.{prefix_refl, prefix_trans}
 use Rattle.c_meaning.proofs.RunLaws.{statement_grows, expression_grows}
 use Rattle.c_interpreter.specs.declared.frame.Frame.{Frame}
 use Rattle.c_interpreter.specs.declared.frame.Frame.TheVariants as frame
 use Rattle.c_interpreter.specs.declared.frame.Task.{Task}
 use Rattle.c_interpreter.specs.declared.frame.Task.TheVariants as task
-use Rattle.c_interpreter.specs.Machine.{Signal, Gave, Gathered, Finished, Configuration, state_of, gives, gathers, ends, go_on, give, gather, finish, continue_in, continue_with, resume, task_of, means, span_of, locals_of, flow_of, caller_of}
+use Rattle.c_interpreter.specs.Machine.{Signal, Gave, Gathered, Finished, Configuration, state_of, gives, gathers, ends, go_on, give, gather, finish, continue_in, continue_with, resume, task_of, means, span_of, locals_of}
 use Rattle.c_interpreter.specs.Leading.{ran_of}
 
 -- ---- steps

@@ -1,14 +1,13 @@
 -- The locals of all calls in one list: what changes from an index on changes nothing for callers that stand before it.
-use Rattle.std.proofs.Common.{◌≡◌, ℕ, ◌+◌, ◌-◌, ◌<◌, ◌≤◌, List, [], ◌∷◌, ◌++◌, length, take, drop, map, replicate, reverse, Option, Some, None, refl, sym, ap, ap₂, subst, ◌∙◌, arith, le_trans, le_refl, append_assoc, length-append}
+use Rattle.std.proofs.Common.{◌≡◌, ℕ, ◌+◌, ◌<◌, ◌≤◌, List, [], ◌∷◌, take, drop, Option, Some, None, refl, sym, ap, ap₂, subst, ◌∙◌, arith}
 use Rattle.std.specs.Prelude.{slice_set}
-use Rattle.std.proofs.lemmas.List.{take-take, take-set-le, drop-set-add, length-set, reverse-append, take-append-le}
-use Rattle.std.proofs.Math.Seq.{take-append_seam, drop-append_seam, take-length}
+use Rattle.std.proofs.lemmas.List.{take-take, take-set-le, drop-set-add}
 use Rattle.std.specs.Borrow.{Bor}
 use Rattle.run_model.specs.Stores.{World}
 use Rattle.c_types.specs.declared.tree.Stmt.{Stmt}
 use Rattle.c_types.specs.declared.tree.Unit.{Unit as Whole}
 use Rattle.c_types.specs.Forms.{unset}
-use Rattle.c_meaning.specs.Steps.{State, Result, Step, and_then}
+use Rattle.c_meaning.specs.Steps.{Result, Step, and_then}
 use Rattle.c_meaning.specs.Meaning.{Flow}
 use Rattle.c_interpreter.specs.declared.frame.Frame.{Frame}
 use Rattle.c_interpreter.specs.declared.frame.Frame.TheVariants as frame
@@ -16,10 +15,10 @@ use Rattle.c_interpreter.specs.declared.frame.Ending.TheVariants as ending
 use Rattle.c_interpreter.specs.declared.frame.Task.{Task}
 use Rattle.c_interpreter.specs.declared.frame.Task.TheVariants as task
 use Rattle.c_interpreter.specs.declared.machine.Place.{Place}
-use Rattle.c_interpreter.specs.Machine.{Signal, Gave, Configuration, with_frame, state_of, means, IsSound, continue_in, continue_with, resume, task_of, Nested, NestedIn, span_of, locals_of}
+use Rattle.c_interpreter.specs.Machine.{Signal, Gave, Configuration, state_of, IsSound, continue_in, resume, task_of, Nested, NestedIn, span_of, locals_of}
 use Rattle.c_interpreter.specs.Weights.{size_stmt, frames_weight, task_weight}
 use Rattle.c_interpreter.specs.Leading.{Meaning, LeadsFrom, Leads, Continues, SetsLocal, world_of, stmt_meaning}
-use Rattle.c_interpreter.proofs.Resume.{nested_below, nested_push}
+use Rattle.c_interpreter.proofs.Resume.{nested_below}
 
 same_span : (span : Option (ℕ × ℕ)) (above : ℕ → Type 0) (base low : ℕ) (words others : List (Option ℕ)) → ((n : ℕ) → above n → n ≤ base)
     → NestedIn span above low → take base others ≡ take base words → locals_of others span ≡ locals_of words span

@@ -1,5 +1,5 @@
 -- A copy that may not be made.
-use Rattle.std.proofs.Common.{◌≡◌, ℕ, List, Option, Some, None, refl, arith}
+use Rattle.std.proofs.Common.{◌≡◌, ℕ, List, Some, None, refl, arith}
 use Rattle.run_model.specs.declared.outcome.Outcome.TheVariants.{Undefined}
 use Rattle.run_model.specs.Accesses.{copied}
 use Rattle.c_interpreter.specs.declared.frame.Frame.TheVariants as frame

@@ -1,5 +1,5 @@
 -- An expression is its first part, and then its frame.
-use Rattle.std.proofs.Common.{◌≡◌, ℕ, zero, suc, ◌+◌, ◌<◌, ◌≤◌, ◌%◌, List, [], ◌∷◌, ◌++◌, length, take, drop, Option, Some, None, refl, sym, ap, ap₂, subst, ◌∙◌, arith, add_assoc}
+use Rattle.std.proofs.Common.{◌≡◌, ℕ, ◌%◌, List, Option, Some, None, refl, sym, ap, ap₂, subst, ◌∙◌, arith}
 use Rattle.std.specs.Prelude.{slice_get}
 use Rattle.std.specs.Borrow.{Bor}
 use Rattle.cp_base.specs.declared.op.Kind.{Kind}
@@ -13,7 +13,7 @@ use Rattle.c_types.specs.declared.tree.Expr.{Expr}
 use Rattle.c_types.specs.declared.tree.Expr.TheVariants as expr
 use Rattle.c_types.specs.declared.tree.Stmt.{Stmt}
 use Rattle.c_types.specs.declared.tree.Unit.{Unit as Whole}
-use Rattle.c_types.specs.Forms.{set_local, load, store, binary, convert, both, either, choose, seq, call, put_char, copy, const, length_of, expr_row}
+use Rattle.c_types.specs.Forms.{set_local, load, store, binary, convert, both, either, choose, seq, call, put_char, copy, length_of, expr_row}
 use Rattle.c_types.proofs.FormLaws.{set_local_is, load_is, store_is, binary_is, convert_is, both_is, either_is, choose_is, seq_is, put_char_is, copy_is, call_is}
 use Rattle.c_meaning.specs.Steps.{State, Result, Gives, Stops, Step, pure, and_then, ◌>>=◌, ◌>>◌, known, operate, write_local, read_data, write_data, copy_data, write_byte, choice, is_true}
 use Rattle.c_meaning.specs.Meaning.{Flow, eval, eval_all, used, value, call_of}
@@ -21,9 +21,9 @@ use Rattle.c_interpreter.specs.declared.frame.Frame.{Frame}
 use Rattle.c_interpreter.specs.declared.frame.Frame.TheVariants as frame
 use Rattle.c_interpreter.specs.declared.frame.Task.{Task}
 use Rattle.c_interpreter.specs.declared.frame.Task.TheVariants as task
-use Rattle.c_interpreter.specs.Machine.{Signal, Gave, Gathered, Finished, gives, gathers, ends, continue_with, task_of, span_of}
-use Rattle.c_interpreter.specs.Weights.{size, sizes, frame_weight, task_weight}
-use Rattle.c_interpreter.specs.Leading.{Opens, Settles, expr_meaning}
+use Rattle.c_interpreter.specs.Machine.{Signal, Gave, Gathered, continue_with}
+use Rattle.c_interpreter.specs.Weights.{size}
+use Rattle.c_interpreter.specs.Leading.{Opens, expr_meaning}
 
 -- a value that has to be there, and then the rest
 pub by_used : {A : Type 0} → (first : Result (Option ℕ)) (rest : ℕ → Step A) (lift : A → Signal) (k : Signal → Step Signal)

@@ -1,5 +1,5 @@
 -- The output of a run over a sink.
-use Rattle.std.proofs.Common.{◌≡◌, ℕ, ◌+◌, ◌*◌, ◌≤◌, ◌<◌, inl, inr, List, [], ◌++◌, Option, refl, sym, ap, ap₂, subst, ◌∙◌, arith, le_trans, le_refl, append_assoc}
+use Rattle.std.proofs.Common.{◌≡◌, ℕ, ◌≤◌, inl, inr, List, [], ◌++◌, Option, refl, sym, ap, subst, ◌∙◌, arith, le_trans, le_refl}
 use Rattle.std.proofs.lemmas.List.{append-nil}
 use Rattle.std.specs.Prelude.{Result as Answer, Ok, Err, OnOk, IfOk, IfErr}
 use Rattle.std.specs.Result.{IsErrAnd}
@@ -15,7 +15,7 @@ use Rattle.c_meaning.specs.Meaning.{at_turn}
 use Rattle.c_interpreter.specs.declared.frame.Task.{Task}
 use Rattle.c_interpreter.specs.declared.frame.Task.TheVariants as task
 use Rattle.c_interpreter.specs.declared.machine.Place.{Place}
-use Rattle.c_interpreter.specs.Machine.{Configuration, IsSound, means, resume, task_of, state_of}
+use Rattle.c_interpreter.specs.Machine.{Configuration, IsSound, resume, task_of, state_of}
 use Rattle.c_interpreter.specs.Leading.{Nears, Falls, ran_of, world_of}
 use Rattle.c_interpreter.specs.Outputs.{start_of, RunsTo, IsOnWay}
 use Rattle.c_interpreter.specs.Faults.{GainsPrefix, Refuses}

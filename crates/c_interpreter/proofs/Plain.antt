@@ -1,5 +1,5 @@
 -- Expressions whose value is known at once: they need no frame.
-use Rattle.std.proofs.Common.{◌≡◌, ◌==◌, Bool, true, false, length, ℕ, ◌+◌, ◌<◌, List, [], ◌∷◌, Option, Some, None, drop, refl, sym, ap, subst, ◌∙◌, arith}
+use Rattle.std.proofs.Common.{◌≡◌, ◌==◌, Bool, true, length, ℕ, List, [], ◌∷◌, Option, Some, None, drop, refl, sym, ap, subst, ◌∙◌, arith}
 use Rattle.std.specs.Prelude.{slice_get, Result as Answer, IfOk, IfSome}
 use Rattle.std.specs.Borrow.{Bor}
 use Rattle.std.proofs.lemmas.Bool.{eqb-true}
@@ -12,7 +12,7 @@ use Rattle.c_types.specs.declared.tree.Expr.{Expr}
 use Rattle.c_types.specs.declared.tree.Expr.TheVariants as expr
 use Rattle.c_types.specs.declared.tree.Stmt.{Stmt}
 use Rattle.c_types.specs.declared.tree.Unit.{Unit as Whole}
-use Rattle.c_types.specs.Forms.{const, local, expr_row, stmt_row}
+use Rattle.c_types.specs.Forms.{expr_row, stmt_row}
 use Rattle.c_types.specs.Operators.{c_operator}
 use Rattle.c_meaning.specs.Steps.{State, Result, Gives, Stops, Step, and_then, pure, known, value_at, ◌>>=◌, ◌>>◌, operate, write_data}
 use Rattle.c_meaning.specs.Meaning.{Flow, Normal, Breaks, Continues as Goes, Returns, eval, eval_all, exec, exec_all, value, if_normal}
@@ -22,7 +22,7 @@ use Rattle.c_interpreter.specs.declared.frame.Task.{Task}
 use Rattle.c_interpreter.specs.declared.frame.Task.TheVariants as task
 use Rattle.c_interpreter.specs.declared.machine.Place.{Place}
 use Rattle.c_interpreter.specs.Machine.{Gave, Gathered, Finished, Configuration, state_of, continue_with, resume, task_of, known_task, ends, IsSound}
-use Rattle.c_interpreter.specs.Weights.{size, size_stmts, frame_weight, task_weight, frames_weight, weight}
+use Rattle.c_interpreter.specs.Weights.{size, size_stmts, frame_weight, task_weight}
 use Rattle.c_interpreter.specs.Leading.{Meaning, Opens, Settles, LeadsFrom, Continues, IsPlain, world_of, expr_meaning, frame_meaning, task_meaning}
 use Rattle.c_interpreter.proofs.Resume.{settled_here, changed}
 use Rattle.c_interpreter.proofs.Opening.{by_used}

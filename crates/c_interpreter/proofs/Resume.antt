@@ -1,5 +1,5 @@
 -- Frames, and what stands below them.
-use Rattle.std.proofs.Common.{◌≡◌, ℕ, zero, suc, ◌+◌, ◌<◌, ◌≤◌, List, [], ◌∷◌, ◌++◌, length, take, drop, reverse, Option, Some, None, refl, sym, ap, ap₂, subst, ◌∙◌, arith, append_assoc, length-append, le_refl, le_trans, add_assoc}
+use Rattle.std.proofs.Common.{◌≡◌, ℕ, ◌+◌, ◌<◌, ◌≤◌, List, [], ◌∷◌, ◌++◌, reverse, Option, Some, None, refl, sym, ap, ap₂, subst, ◌∙◌, arith, le_trans, add_assoc}
 use Rattle.std.specs.Prelude.{Result as Answer, IfOk}
 use Rattle.std.proofs.lemmas.Result.{IfOk-weaker}
 use Rattle.run_model.specs.Stores.{World}
@@ -8,14 +8,13 @@ use Rattle.c_types.specs.declared.tree.Unit.{Unit as Whole}
 use Rattle.c_meaning.specs.Steps.{State, Result, Gives, Stops, Step, and_then}
 use Rattle.c_meaning.specs.Meaning.{Flow}
 use Rattle.c_interpreter.specs.declared.frame.Frame.{Frame}
-use Rattle.c_interpreter.specs.declared.frame.Frame.TheVariants as frame
 use Rattle.c_interpreter.specs.declared.frame.Ending.{Ending}
 use Rattle.c_interpreter.specs.declared.frame.Task.{Task}
 use Rattle.c_interpreter.specs.declared.frame.Task.TheVariants as task
 use Rattle.c_interpreter.specs.declared.machine.Place.{Place}
-use Rattle.c_interpreter.specs.Machine.{Signal, Gave, Gathered, Finished, flow_of, Configuration, with_frame, state_of, means, IsSound, continue_with, resume, task_of, Nested, NestedIn, span_of}
-use Rattle.c_interpreter.specs.Weights.{frame_weight, frames_weight, task_weight, weight}
-use Rattle.c_interpreter.specs.Leading.{Reaches, Meaning, Opens, Settles, LeadsFrom, Leads, Continues, world_of, task_meaning, frame_meaning}
+use Rattle.c_interpreter.specs.Machine.{Signal, Gave, Gathered, Finished, flow_of, Configuration, with_frame, state_of, IsSound, continue_with, resume, task_of, Nested, NestedIn, span_of}
+use Rattle.c_interpreter.specs.Weights.{frame_weight, frames_weight, task_weight}
+use Rattle.c_interpreter.specs.Leading.{Reaches, Meaning, Opens, Settles, LeadsFrom, Leads, Continues, world_of}
 
 pub resume_push : (u : Whole) (w : World) (again : Stmt → Step Flow) (words : List (Option ℕ)) (fs : List Frame) (f : Frame) (r : Result Signal)
     → resume u w again words (fs ++ f ∷ []) r ≡ resume u w again words fs (and_then r (continue_with u w again words f))

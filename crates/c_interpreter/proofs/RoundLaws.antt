@@ -1,5 +1,5 @@
 -- One turn of a run.
-use Rattle.std.proofs.Common.{◌≡◌, ℕ, ◌≤◌, ◌<◌, ◌%◌, List, [], Option, Some, None, refl, sym, ap, subst, ◌∙◌, arith}
+use Rattle.std.proofs.Common.{◌≡◌, ℕ, [], Option, refl, sym, ap, subst, ◌∙◌, arith}
 use Rattle.std.specs.Prelude.{Result as Answer, IfOk}
 use Rattle.std.proofs.lemmas.Result.{IfOk-weaker}
 use Rattle.run_model.specs.declared.outcome.Outcome.TheVariants as outcome
@@ -9,7 +9,7 @@ use Rattle.c_interpreter.specs.declared.frame.Ending.{Ending}
 use Rattle.c_interpreter.specs.declared.frame.Task.{Task}
 use Rattle.c_interpreter.specs.declared.frame.Task.TheVariants as task
 use Rattle.c_interpreter.specs.declared.machine.Place.{Place}
-use Rattle.c_interpreter.specs.Machine.{Configuration, IsSound, flow_of, means, resume, task_of, state_of}
+use Rattle.c_interpreter.specs.Machine.{Configuration, IsSound, flow_of, resume, task_of, state_of}
 use Rattle.c_interpreter.specs.Leading.{Advances, Reaches, Nears, Falls, ran_of, world_of}
 
 pub advanced : (place : Place) (c d : Configuration) (t s : Task) → Advances place c t d s → Nears place c t d s

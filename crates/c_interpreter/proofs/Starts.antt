@@ -1,5 +1,5 @@
 -- How a run begins: the first moment of the interpreter comes to the run of the unit.
-use Rattle.std.proofs.Common.{◌≡◌, ℕ, zero, suc, ◌-◌, ◌<◌, List, [], ◌++◌, Option, Some, None, replicate, refl, sym, ap, ap₂, subst, ◌∙◌, arith}
+use Rattle.std.proofs.Common.{◌≡◌, ℕ, zero, suc, ◌<◌, List, [], Option, Some, None, replicate, refl, sym, ap, ap₂, subst, ◌∙◌, arith}
 use Rattle.std.specs.Prelude.{Result as Answer, Ok, Err, IfOk, IfErr, OnOk}
 use Rattle.std.specs.Borrow.{Bor}
 use Rattle.std.proofs.lemmas.Result.{IfOk-weaker}
@@ -12,9 +12,8 @@ use Rattle.run_model.specs.declared.outcome.Outcome.TheVariants.{Undefined, Deep
 use Rattle.c_types.specs.declared.tree.Func.{Func}
 use Rattle.c_types.specs.declared.tree.Stmt.{Stmt}
 use Rattle.c_types.specs.declared.tree.Unit.{Unit as Whole}
-use Rattle.c_types.specs.Placing.{image}
-use Rattle.c_meaning.specs.Steps.{State, Result, Gives, Stops, and_then, pure}
-use Rattle.c_meaning.specs.Meaning.{Flow, first_locals, run, exec, at_turn}
+use Rattle.c_meaning.specs.Steps.{Result, Gives, Stops, and_then, pure}
+use Rattle.c_meaning.specs.Meaning.{Flow, run, exec, at_turn}
 use Rattle.c_meaning.specs.Runs.{Ran, ran, main_of, first_state, run_main, c_run}
 use Rattle.c_interpreter.specs.declared.frame.Task.TheVariants as task
 use Rattle.c_interpreter.specs.declared.machine.Place.{Place}

@@ -1,5 +1,5 @@
 -- A statement is its first part, and then its frame.
-use Rattle.std.proofs.Common.{◌≡◌, ℕ, zero, suc, ◌+◌, ◌<◌, ◌≤◌, ◌%◌, List, [], ◌∷◌, ◌++◌, length, take, drop, reverse, Option, Some, None, refl, sym, ap, ap₂, subst, ◌∙◌, arith, add_assoc}
+use Rattle.std.proofs.Common.{◌≡◌, ℕ, suc, List, [], ◌∷◌, Option, Some, None, refl, sym, ap, ap₂, subst, ◌∙◌, arith}
 use Rattle.std.specs.Borrow.{Bor}
 use Rattle.run_model.specs.Stores.{World}
 use Rattle.c_types.specs.declared.tree.Expr.{Expr}
@@ -7,10 +7,10 @@ use Rattle.c_types.specs.declared.tree.Group.{Group}
 use Rattle.c_types.specs.declared.tree.Stmt.{Stmt}
 use Rattle.c_types.specs.declared.tree.Stmt.TheVariants as stmt
 use Rattle.c_types.specs.declared.tree.Unit.{Unit as Whole}
-use Rattle.c_types.specs.Forms.{block, drop_expr, unset, return_with, if_else, loop, do_loop, break, continue, switch, expr_row, stmt_row, group_row, groups, length_of}
-use Rattle.c_types.proofs.FormLaws.{block_is, drop_expr_is, unset_is, return_with_is, if_else_is, loop_is, do_loop_is, switch_is, groups-group_row}
-use Rattle.c_meaning.specs.Steps.{State, Result, Gives, Stops, Step, pure, and_then, ◌>>=◌, ◌>>◌, known, choice, is_true, turn}
-use Rattle.c_meaning.specs.Meaning.{Flow, Normal, Breaks, Continues, Returns, eval, eval_all, exec, exec_all, exec_from, used, value, holds, dropped, returned, if_normal, if_goes_on, ended_by_break, passed}
+use Rattle.c_types.specs.Forms.{block, drop_expr, return_with, if_else, loop, do_loop, switch, expr_row, stmt_row, group_row, length_of}
+use Rattle.c_types.proofs.FormLaws.{block_is, if_else_is, loop_is, do_loop_is, switch_is, groups-group_row}
+use Rattle.c_meaning.specs.Steps.{Result, Gives, Stops, Step, pure, and_then, ◌>>=◌, ◌>>◌, known, choice, is_true, turn}
+use Rattle.c_meaning.specs.Meaning.{Flow, Normal, Returns, eval, eval_all, exec, exec_all, exec_from, holds, dropped, if_normal, if_goes_on, ended_by_break, passed}
 use Rattle.c_interpreter.specs.declared.frame.Frame.{Frame}
 use Rattle.c_interpreter.specs.declared.frame.Frame.TheVariants as frame
 use Rattle.c_interpreter.specs.declared.frame.Ending.TheVariants as ending
@@ -20,10 +20,10 @@ use Rattle.c_interpreter.specs.Leading.{LeadsFrom, Leads}
 use Rattle.c_interpreter.specs.Machine.{Configuration, IsSound}
 use Rattle.c_interpreter.proofs.Resume.{changed}
 use Rattle.c_interpreter.specs.declared.frame.Task.TheVariants as task
-use Rattle.c_interpreter.specs.Machine.{Signal, Gave, Gathered, Finished, gives, gathers, ends, continue_with, task_of, span_of}
-use Rattle.c_interpreter.specs.Weights.{size, sizes, size_of, size_stmt, size_stmts, size_groups, frame_weight, task_weight}
+use Rattle.c_interpreter.specs.Machine.{Gave, Gathered, Finished, gathers, ends, continue_with}
+use Rattle.c_interpreter.specs.Weights.{sizes, size_stmt, size_stmts, size_groups}
 use Rattle.c_interpreter.specs.Leading.{Opens, Settles, stmt_meaning, task_meaning}
-use Rattle.c_interpreter.proofs.Opening.{by_used, by_given}
+use Rattle.c_interpreter.proofs.Opening.{by_used}
 
 abbrev pub OpensStmt : Stmt → Frame → Task → Type 0
 OpensStmt s f t = Opens (stmt_meaning s) (size_stmt s) f t

@@ -1,24 +1,23 @@
 -- Turns and calls.
-use Rattle.std.proofs.Common.{◌≡◌, ℕ, zero, suc, ◌+◌, ◌-◌, ◌<◌, ◌≤◌, Bool, true, false, nat_lt, List, [], ◌∷◌, ◌++◌, length, take, drop, reverse, map, replicate, Option, Some, None, refl, sym, ap, ap₂, subst, ◌∙◌, arith, append_assoc, length-append, le_refl}
+use Rattle.std.proofs.Common.{◌≡◌, ℕ, zero, suc, ◌-◌, ◌<◌, true, false, nat_lt, List, [], ◌∷◌, ◌++◌, length, take, drop, reverse, map, replicate, Option, Some, None, refl, sym, ap, ap₂, ◌∙◌, arith, append_assoc, length-append, le_refl}
 use Rattle.std.specs.Borrow.{Bor}
 use Rattle.std.proofs.Math.Seq.{take-append_seam, drop-append_seam}
-use Rattle.std.proofs.lemmas.List.{take-append-le, reverse-append, length-reverse}
+use Rattle.std.proofs.lemmas.List.{take-append-le, length-reverse}
 use Rattle.run_model.specs.declared.outcome.Outcome.TheVariants.{Running, Deep}
 use Rattle.run_model.specs.Stores.{World}
 use Rattle.c_types.specs.declared.tree.Func.{Func}
 use Rattle.c_types.specs.declared.tree.Stmt.{Stmt}
 use Rattle.c_types.specs.declared.tree.Unit.{Unit as Whole}
 use Rattle.c_meaning.specs.Steps.{State, Result, Gives, Stops, Step, and_then, pure, stop, choice, turn_of}
-use Rattle.c_meaning.specs.Meaning.{Flow, value_of, left, entered, first_locals, exec, call_of, call_body, at_turn, run}
+use Rattle.c_meaning.specs.Meaning.{Flow, left, entered, first_locals, exec, call_body, at_turn}
 use Rattle.c_meaning.proofs.RunLaws.{statement_bound}
 use Rattle.c_interpreter.specs.declared.frame.Frame.{Frame}
 use Rattle.c_interpreter.specs.declared.frame.Frame.TheVariants as frame
-use Rattle.c_interpreter.specs.declared.frame.Task.{Task}
 use Rattle.c_interpreter.specs.declared.frame.Task.TheVariants as task
 use Rattle.c_interpreter.specs.declared.machine.Place.{Place}
-use Rattle.c_interpreter.specs.Machine.{Signal, Gave, Finished, Configuration, with_frame, state_of, means, IsSound, continue_with, resume, ends, Nested, NestedIn, span_of, locals_of}
+use Rattle.c_interpreter.specs.Machine.{Signal, Gave, Finished, Configuration, state_of, IsSound, continue_with, resume, ends, Nested, span_of}
 use Rattle.c_interpreter.specs.Leading.{Advances, world_of}
-use Rattle.c_interpreter.proofs.Resume.{resume_push, nested_below, nested_map}
+use Rattle.c_interpreter.proofs.Resume.{resume_push, nested_map}
 use Rattle.c_interpreter.proofs.Locals.{resume_same}
 
 -- a statement goes on from a turn as a run of it does

@@ -13,8 +13,8 @@ use Rattle.c_interpreter.specs.declared.frame.Frame.{Frame}
 use Rattle.c_interpreter.specs.declared.frame.Task.{Task}
 use Rattle.c_interpreter.specs.declared.frame.Task.TheVariants as task
 use Rattle.c_interpreter.specs.declared.machine.Place.{Place}
-use Rattle.c_interpreter.specs.Machine.{Signal, Gave, Gathered, Finished, Configuration, with_frame, state_of, continue_with, resume, task_of, means, span_of, IsSound, gives, ends}
-use Rattle.c_interpreter.specs.Weights.{size, size_stmt, task_weight, frame_weight, frames_weight, weight}
+use Rattle.c_interpreter.specs.Machine.{Signal, Finished, Configuration, state_of, continue_with, resume, task_of, means, span_of, IsSound, gives, ends}
+use Rattle.c_interpreter.specs.Weights.{task_weight, frame_weight, frames_weight, weight}
 
 abbrev pub world_of : Place → World
 world_of place = record { base = place.base; input = place.input.now; depth = place.depth }

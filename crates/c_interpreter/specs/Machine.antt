@@ -1,17 +1,16 @@
 -- The steps of the interpreter: what its tasks and its frames mean, in the terms of the C meaning. No public clause names it.
-use Rattle.std.specs.Prelude.{◌≡◌, ℕ, zero, suc, ◌+◌, ◌-◌, ◌%◌, ◌<◌, ◌≤◌, Bool, List, [], ◌∷◌, ◌++◌, length, take, drop, reverse, Option, Some, None, slice_get}
+use Rattle.std.specs.Prelude.{ℕ, zero, ◌%◌, ◌≤◌, List, [], ◌∷◌, ◌++◌, length, take, drop, reverse, Option, Some, None, slice_get}
 use Rattle.cp_base.specs.declared.op.To.TheVariants.{Truth}
 use Rattle.cp_base.specs.Operations.{converted}
 use Rattle.run_model.specs.declared.outcome.Outcome.TheVariants.{Undefined}
-use Rattle.run_model.specs.Stores.{World, Store}
+use Rattle.run_model.specs.Stores.{World}
 use Rattle.c_types.specs.declared.tree.Stmt.{Stmt}
-use Rattle.c_types.specs.declared.tree.Func.{Func}
 use Rattle.c_types.specs.declared.tree.Unit.{Unit as Whole}
 use Rattle.c_types.specs.declared.tree.Expr.{Expr}
 use Rattle.c_types.specs.declared.tree.Expr as expr
 use Rattle.c_types.specs.Forms.{expr_row, stmt_row, group_row}
-use Rattle.c_meaning.specs.Steps.{State, Result, Gives, Stops, Step, pure, stop, and_then, ◌>>=◌, ◌>>◌, choice, known, is_true, turn, write_local, read_data, write_data, copy_data, write_byte, operate}
-use Rattle.c_meaning.specs.Meaning.{Flow, Normal, Breaks, Continues, Returns, value, used, value_of, left, if_normal, if_goes_on, ended_by_break, passed, call_of, eval, eval_all, holds, dropped, exec, exec_all, exec_from}
+use Rattle.c_meaning.specs.Steps.{State, Result, Gives, Step, pure, stop, and_then, ◌>>=◌, ◌>>◌, choice, known, is_true, turn, write_local, read_data, write_data, copy_data, write_byte, operate}
+use Rattle.c_meaning.specs.Meaning.{Flow, Normal, Breaks, Continues, Returns, value, used, left, if_normal, if_goes_on, ended_by_break, passed, call_of, eval, eval_all, holds, dropped, exec, exec_all, exec_from}
 use Rattle.c_interpreter.specs.declared.frame.Frame.{Frame}
 use Rattle.c_interpreter.specs.declared.frame.Frame.TheVariants as frame
 use Rattle.c_interpreter.specs.declared.frame.Ending.{Ending}

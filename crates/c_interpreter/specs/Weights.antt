@@ -1,9 +1,8 @@
 -- How many steps the interpreter takes at most before the next turn. No public clause names it.
-use Rattle.std.specs.Prelude.{ℕ, ◌+◌, ◌<◌, List, [], ◌∷◌, Option, Some, None}
+use Rattle.std.specs.Prelude.{ℕ, ◌+◌, List, [], ◌∷◌, Option, Some, None}
 use mathlib.Core.Former.{Count}
 use Rattle.c_types.specs.declared.tree.Expr.{Expr}
 use Rattle.c_types.specs.declared.tree.Stmt.{Stmt}
-use Rattle.c_types.specs.declared.tree.Group.{Group}
 use Rattle.c_types.specs.Forms.{ExprRow, no_exprs, an_expr, expr_row, stmt_row, group_row, set_local, load, store, binary, convert, both, either, choose, seq, call, put_char, copy, StmtRow, no_stmts, a_stmt, GroupRow, no_groups, a_group, block, drop_expr, return_with, if_else, loop, do_loop, switch}
 use Rattle.c_interpreter.specs.declared.frame.Frame.{Frame}
 use Rattle.c_interpreter.specs.declared.frame.Frame.TheVariants as frame

@@ -1,15 +1,12 @@
 -- The units are well made.
-use Rattle.std.proofs.Common.{◌≡◌, ◌<◌, ◌≤◌, ℕ, zero, suc, refl, inl, inr, arith, rules, codes, List, [], ◌∷◌, Contains, slice_index_or}
+use Rattle.std.proofs.Common.{◌≡◌, ◌<◌, ℕ, zero, suc, refl, arith, rules, codes, List, [], ◌∷◌, Contains, slice_index_or}
 use denote.Hole.Carrier.{hidden}
 use Rattle.std.specs.List.{IsDistinct}
 use Rattle.std.specs.Prelude.{Result as Answer, IfOk}
 use Rattle.std.proofs.lemmas.Result.{IfOk-weaker}
 use Rattle.c_types.specs.declared.tree.Expr.TheBlock.{hidden-the_row-Expr-0, hidden-the_row-Expr-1, shape-the_row-Expr-1}
-use Rattle.c_types.specs.declared.tree.Stmt.{Stmt}
 use Rattle.c_types.specs.declared.tree.Stmt.TheBlock.{hidden-the_row-Stmt-0, hidden-the_row-Stmt-1, shape-the_row-Stmt-0, hidden-the_row-Group-2, shape-the_row-Group-2}
 use Rattle.c_types.specs.declared.tree.Unit.{Unit as Whole}
-use Rattle.c_types.specs.Placing.{data_size}
-use Rattle.c_types.specs.WellMade.{IsWellMade}
 use Rattle.run_tests.specs.Units.{Fits, endless_x, signed_overflow, echo, empty_main, null_load, unset_local, factorial, switch_falls_through, struct_copy}
 
 pub fits : {E : Type 0} (r : Answer Whole E) (u : Whole) → Fits u → IfOk r (λ v. v ≡ u) → IfOk r Fits

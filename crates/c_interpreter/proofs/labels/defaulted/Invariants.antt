@@ -1,5 +1,4 @@
-use Rattle.std.proofs.Common.{◌≡◌, ◌+◌, ◌==◌, drop}
-use Rattle.std.specs.List.{list_any}
+use Rattle.std.proofs.Common.{◌≡◌, ◌+◌, drop}
 use Rattle.c_meaning.specs.Meaning.{groups_before}
 use Rattle.c_interpreter.proofs.labels.defaulted.Given as goal
 

@@ -1,7 +1,7 @@
 use Rattle.std.proofs.Common.{arith, subst, ◌≡◌, None, Some}
 use Rattle.c_meaning.specs.Runs.{main_of}
 use Rattle.run_model.specs.declared.outcome.Outcome.TheVariants.{Undefined, Deep}
-use Rattle.c_interpreter.proofs.Starts.{run_at_depth_none, run_without_main, same_outcome, same_output, answer_outcome, answer_output}
+use Rattle.c_interpreter.proofs.Starts.{run_at_depth_none, run_without_main, same_outcome, same_output}
 use Rattle.c_interpreter.proofs.unit.interpret.Goals as goal
 
 pub returns-then-depth-eq0-clause-outcome : goal.returns-then-depth-eq0-clause-outcome

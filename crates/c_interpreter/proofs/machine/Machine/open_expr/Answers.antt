@@ -1,11 +1,11 @@
-use Rattle.std.proofs.Common.{sym, ap, ap₂, ◌∙◌}
-use Rattle.c_types.specs.Forms.{binary, put_char}
-use Rattle.c_types.proofs.FormLaws.{binary_is, put_char_is}
+use Rattle.std.proofs.Common.{sym, ap₂, ◌∙◌}
+use Rattle.c_types.specs.Forms.{binary}
+use Rattle.c_types.proofs.FormLaws.{binary_is}
 use Rattle.c_interpreter.specs.Machine.{seen}
 use Rattle.c_interpreter.proofs.Plain.{whole_if}
 use Rattle.c_interpreter.specs.Leading.{expr_meaning}
 use Rattle.c_interpreter.specs.Weights.{size}
-use Rattle.c_interpreter.proofs.Opening.{open_call, open_set_local, open_load, open_store, open_convert, open_both, open_either, open_choose, open_seq, open_copy}
+use Rattle.c_interpreter.proofs.Opening.{open_call, open_set_local, open_load, open_store}
 use Rattle.c_interpreter.proofs.machine.Machine.open_expr.Goals as goal
 
 pub returns-in-SetLocal : goal.returns-in-SetLocal

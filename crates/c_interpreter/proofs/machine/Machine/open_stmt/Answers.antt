@@ -1,10 +1,10 @@
-use Rattle.std.proofs.Common.{◌≡◌, refl, subst, sym}
+use Rattle.std.proofs.Common.{refl}
 use Rattle.c_interpreter.specs.Leading.{stmt_meaning}
 use Rattle.c_interpreter.specs.Weights.{size_stmt}
 use Rattle.c_interpreter.specs.Machine.{seen}
 use Rattle.c_interpreter.proofs.Resume.{settled}
 use Rattle.c_interpreter.proofs.Locals.{unset_at}
-use Rattle.c_interpreter.proofs.Stmts.{open_block, open_drop, open_return, open_if, open_switch, open_do}
+use Rattle.c_interpreter.proofs.Stmts.{open_block, open_if, open_switch, open_do}
 use Rattle.c_interpreter.proofs.machine.Machine.open_stmt.Goals as goal
 
 pub returns-in-Block : goal.returns-in-Block

@@ -1,5 +1,4 @@
-use Rattle.std.proofs.Common.{subst}
-use Rattle.c_interpreter.specs.Machine.{seen, IsSound}
+use Rattle.c_interpreter.specs.Machine.{seen}
 use Rattle.c_interpreter.proofs.Resume.{sound_below, pass_value}
 use Rattle.c_interpreter.proofs.machine.Machine.pass_value.Goals as goal
 

@@ -1,5 +1,4 @@
-use Rattle.std.proofs.Common.{rules, refl, ap, List}
-use Rattle.c_interpreter.specs.declared.frame.Frame.{Frame}
+use Rattle.std.proofs.Common.{rules, refl}
 use Rattle.c_interpreter.specs.Machine.{seen}
 use Rattle.c_interpreter.proofs.Resume.{opened}
 use Rattle.c_interpreter.proofs.machine.Machine.push.Goals as goal
