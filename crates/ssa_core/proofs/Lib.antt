@@ -1,0 +1,6 @@
+mod Endless
+mod GlobalTheorem
+mod Keeps
+mod Lookups
+mod Rows
+mod Tables
