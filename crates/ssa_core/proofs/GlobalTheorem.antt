@@ -107,8 +107,8 @@ module _ {V : Type 0} (k : View V) (c : IsComplete k) where
   -- no walk goes back along an endless chain
   no_chain : (w : Walk) → IsWalk k.shape w → (n b : ℕ) → Chain k n b → end k.shape w ≡ b → length w < n → ⊥
   no_chain w is zero b no_step at less = omega (arith, less)
-  no_chain [] is (suc n) b (step q sealed e more) at less = no_pred_of_first b q [] at e
-  no_chain (edge ∷ w) is (suc n) b (step q sealed e more) at less =
+  no_chain [] is (suc n) b (step q sealed e unwritten more) at less = no_pred_of_first b q [] at e
+  no_chain (edge ∷ w) is (suc n) b (step q sealed e unwritten more) at less =
       let there : slice_get (q ∷ []) edge.place ≡ Some (end k.shape w) = ap (λ qs. slice_get qs edge.place) (sym (ap k.shape.preds at ∙ e)) ∙ is.0 in
       no_chain w is.1 n q more (sym (only_place q (end k.shape w) edge.place there)) (omega (arith, less))
 
@@ -125,9 +125,9 @@ module _ {V : Type 0} (k : View V) (c : IsComplete k) where
       by : Full k b p → Visits k.shape [] (k.shape.block v)
       by (at_start kind same sealed none) = at ∙ made_here b p v m same e
       by (joined operands kind same size each) = at ∙ made_here b p v m same e
-      by (replaced q qs preds each) = absurd (no_pred_of_first b q qs at preds)
+      by (replaced went q qs preds each) = absurd (no_pred_of_first b q qs at preds)
   stands_first own b v (passed q none sealed preds g) at reaches = absurd (no_pred_of_first b q [] at preds)
-  stands_first own b v (endless none kind chain) at reaches = absurd (no_chain [] tt 1 b (chain 1) at (omega arith))
+  stands_first own b v (endless none lost kind chain) at reaches = absurd (no_chain [] tt 1 b (chain 1) at (omega arith))
 
   -- what stands at the end of the walk before the last edge
   IsBefore : Walk → Type 0
@@ -143,7 +143,7 @@ module _ {V : Type 0} (k : View V) (c : IsComplete k) where
       by : Full k b p → Visits k.shape (e ∷ w) (k.shape.block v)
       by (at_start kind itself sealed none) = inl (at ∙ made_here b p v m itself same)
       by (joined operands kind itself size each) = inl (at ∙ made_here b p v m itself same)
-      by (replaced q qs preds each) =
+      by (replaced went q qs preds each) =
           let there : slice_get (k.shape.preds b) e.place ≡ Some (end k.shape w) = ap (λ x. slice_get (k.shape.preds x) e.place) (sym at) ∙ is.0 in
           let g = subst (λ x. Gives k (k.wrote (end k.shape w)) (end k.shape w) x) (sym same) (each e.place (end k.shape w) there) in
           inr (before (k.wrote (end k.shape w)) v (c.reaches (end k.shape w)) g)
@@ -151,7 +151,7 @@ module _ {V : Type 0} (k : View V) (c : IsComplete k) where
       let there : slice_get (q ∷ []) e.place ≡ Some (end k.shape w) = ap (λ qs. slice_get qs e.place) (sym (ap k.shape.preds at ∙ preds)) ∙ is.0 in
       let from_end = subst (λ x. Gives k (k.wrote x) x v) (only_place q (end k.shape w) e.place there) g in
       inr (before (k.wrote (end k.shape w)) v (c.reaches (end k.shape w)) from_end)
-  stands_next e w is before own b v (endless none kind chain) at reaches = absurd (no_way e w is b at chain)
+  stands_next e w is before own b v (endless none lost kind chain) at reaches = absurd (no_way e w is b at chain)
 
   stands : (w : Walk) → IsWalk k.shape w → IsBefore w
   unfolding IsBefore
@@ -187,9 +187,9 @@ module _ {V : Type 0} (k : View V) (c : IsComplete k) where
       by : Full k b p → along k.shape [] v ≡ nowhere
       by (at_start kind itself sealed none) = move itself ∙ along_unknown k.shape [] p kind
       by (joined operands kind itself size each) = move itself ∙ along_phi_first k.shape p operands kind
-      by (replaced q qs preds each) = absurd (no_pred_of_first b q qs at preds)
+      by (replaced went q qs preds each) = absurd (no_pred_of_first b q qs at preds)
   meets_first own b v (passed q none sealed preds g) at = absurd (no_pred_of_first b q [] at preds)
-  meets_first own b v (endless none kind chain) at = absurd (no_chain [] tt 1 b (chain 1) at (omega arith))
+  meets_first own b v (endless none lost kind chain) at = absurd (no_chain [] tt 1 b (chain 1) at (omega arith))
 
   -- the value is given at each predecessor of the block that the last edge leads to
   meets_by : (e : Edge) (w : Walk) → IsWalk k.shape (e ∷ w) → Meets w → (v : V) (q : ℕ) (qs : List ℕ) → k.shape.preds e.into ≡ q ∷ qs
@@ -225,7 +225,7 @@ module _ {V : Type 0} (k : View V) (c : IsComplete k) where
       by (at_start kind itself sealed none) =
           absurd (none_is_not_some (end k.shape w) (ap (λ qs. slice_get qs e.place) (sym none) ∙ there))
       by (joined operands kind itself size each) = move itself ∙ given operands kind (each e.place (end k.shape w) there)
-      by (replaced q qs preds each) =
+      by (replaced went q qs preds each) =
           meets_by e w is before v q qs (sym (ap k.shape.preds at) ∙ preds)
           (λ place pred h. subst (λ x. Gives k (k.wrote pred) pred x) (sym same) (each place pred (ap (λ x. slice_get (k.shape.preds x) place) at ∙ h)))
   meets_next e w is before own b v (passed q none sealed preds g) at =
@@ -233,7 +233,7 @@ module _ {V : Type 0} (k : View V) (c : IsComplete k) where
       meets_by e w is before v q [] only
       (λ place pred h. subst (λ x. Gives k (k.wrote x) x v) (only_place q pred place (ap (λ qs. slice_get qs place) (sym only) ∙ h)) g)
       ∙ sym (last_before k.shape k.wrote own e w none)
-  meets_next e w is before own b v (endless none kind chain) at = absurd (no_way e w is b (sym at) chain)
+  meets_next e w is before own b v (endless none lost kind chain) at = absurd (no_way e w is b (sym at) chain)
 
   meets : (w : Walk) → IsWalk k.shape w → Meets w
   unfolding Meets

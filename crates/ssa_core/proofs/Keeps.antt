@@ -2,7 +2,7 @@
 use Rattle.std.proofs.Common.{◌≡◌, ℕ, zero, suc, ◌⊎◌, inl, inr, true, List, [], ◌∷◌, length, Option, Some, refl, sym, ap, ◌∙◌, subst, arith}
 use Rattle.std.proofs.lemmas.Option.{slice_get_within, get_or_from_slice_get}
 use Rattle.std.specs.List.{slice_get, Contains}
-use Rattle.ssa_core.specs.Shapes.{Shape, ValueKind, unknown, phi, HasOnly, Becomes, AllBecome, KindBecomes, PhiBecomes, IsReplaced}
+use Rattle.ssa_core.specs.Shapes.{Shape, ValueKind, gone, unknown, phi, HasOnly, Becomes, AllBecome, KindBecomes, PhiBecomes, IsReplaced}
 use Rattle.ssa_core.specs.Gives.{View, Gives, written, entered, passed, endless, Chain, no_step, step, IsGivenAt, Full, at_start, joined, replaced}
 
 -- What l knows is at least what k knows: no write more in a block, but more blocks may be sealed, and more values made; what
@@ -14,16 +14,20 @@ pub record Extends {V : Type 0} (k l : View V) : Type 0 where
   pub wrote_stays : (b : ℕ) (u : V) → k.wrote b ≡ Some u → l.shape.current u ≡ k.shape.current u
   pub made : (b : ℕ) (p : V) → k.made b ≡ Some p → l.made b ≡ Some p
   pub made_stays : (b : ℕ) (p : V) → k.made b ≡ Some p → l.shape.current p ≡ k.shape.current p
+  pub lost : (b : ℕ) (v : V) → k.lost b ≡ Some v → l.lost b ≡ Some v
   pub unknown_stays : (v : V) → k.shape.kind v ≡ unknown → l.shape.kind v ≡ unknown
 
 -- what is written in the block is the same
 abbrev pub OwnStays : {V : Type 0} → View V → View V → Option V → Type 0
 OwnStays {V} k l own = (u : V) → own ≡ Some u → l.shape.current u ≡ k.shape.current u
 
+pub gone_is_no_phi : {V : Type 0} (operands : List V) (kind : ValueKind V) → kind ≡ gone → kind ≡ phi operands → ⊥
+gone_is_no_phi operands kind e f = grind (arith, e, f)
+
 module _ {V : Type 0} (k l : View V) (more : Extends k l) where
-  chain_extends : (n b : ℕ) → Chain k n b → Chain l n b
+  pub chain_extends : (n b : ℕ) → Chain k n b → Chain l n b
   chain_extends zero b c = no_step
-  chain_extends (suc n) b (step q sealed preds c) = step q (more.sealed b sealed) (more.preds b sealed ∙ preds) (chain_extends n q c)
+  chain_extends (suc n) b (step q sealed preds unwritten c) = step q (more.sealed b sealed) (more.preds b sealed ∙ preds) (more.wrote q ∙ unwritten) (chain_extends n q c)
 
   pub gives_extends : (own : Option V) (b : ℕ) (v : V) → OwnStays k l own → Gives k own b v → Gives l own b v
   gives_extends own b v stays (written u is same) = written u is (same ∙ sym (stays u is))
@@ -31,24 +35,40 @@ module _ {V : Type 0} (k l : View V) (more : Extends k l) where
   gives_extends own b v stays (passed q none sealed preds g) =
       let there = gives_extends (k.wrote q) q v (more.wrote_stays q) g in
       passed q none (more.sealed b sealed) (more.preds b sealed ∙ preds) (subst (λ o. Gives l o q v) (sym (more.wrote q)) there)
-  gives_extends own b v stays (endless none kind chain) =
-      endless none (more.unknown_stays v kind) (λ n. chain_extends n b (chain n))
+  gives_extends own b v stays (endless none lost kind chain) =
+      endless none (more.lost b v lost) (more.unknown_stays v kind) (λ n. chain_extends n b (chain n))
 
   -- what is given at the end of a block, with all its writes
   pub gives_at_end : (b : ℕ) (v : V) → Gives k (k.wrote b) b v → Gives l (l.wrote b) b v
   gives_at_end b v g = subst (λ o. Gives l o b v) (sym (more.wrote b)) (gives_extends (k.wrote b) b v (more.wrote_stays b) g)
 
-  pub full_extends : (b : ℕ) (p : V) → k.made b ≡ Some p → l.shape.kind p ≡ k.shape.kind p → l.shape.preds b ≡ k.shape.preds b → Full k b p → Full l b p
-  full_extends b p m kind preds (at_start is own sealed none) =
+  -- a Phi that has no operand, and whose block has predecessors, is not full
+  not_empty : (b : ℕ) (kind : ValueKind V) (operands : List V) → kind ≡ phi operands → length operands ≡ length (k.shape.preds b)
+      → kind ≡ phi [] → (k.shape.preds b ≡ [] → ⊥) → ⊥
+  not_empty b kind operands is size empty some = some (by (k.shape.preds b) refl)
+    where
+      none : operands ≡ []
+      none = grind (arith, is, empty)
+
+      by : (qs : List ℕ) → k.shape.preds b ≡ qs → k.shape.preds b ≡ []
+      by [] e = e
+      by (q ∷ qs) e = absurd (omega (arith, size, ap (λ xs. length xs) none, ap (λ xs. length xs) e))
+
+  pub full_extends : (b : ℕ) (p : V) → k.made b ≡ Some p → (l.shape.kind p ≡ k.shape.kind p) ⊎ ((k.shape.kind p ≡ phi []) × (k.shape.preds b ≡ [] → ⊥))
+      → l.shape.preds b ≡ k.shape.preds b → Full k b p → Full l b p
+  full_extends b p m (inl kind) preds (at_start is own sealed none) =
       at_start (kind ∙ is) (more.made_stays b p m ∙ own) (more.sealed b sealed) (preds ∙ none)
-  full_extends b p m kind preds (joined operands is own size each) =
+  full_extends b p m (inr e) preds (at_start is own sealed none) = absurd (e.1 none)
+  full_extends b p m (inr e) preds (joined operands is own size each) = absurd (not_empty b (k.shape.kind p) operands is size e.0 e.1)
+  full_extends b p m (inl kind) preds (joined operands is own size each) =
       joined operands (kind ∙ is) (more.made_stays b p m ∙ own) (size ∙ ap (λ qs. length qs) (sym preds))
       (λ place pred h. more_given (each place pred (ap (λ qs. slice_get qs place) (sym preds) ∙ h)))
     where
       more_given : {place pred : ℕ} → IsGivenAt k operands place pred → IsGivenAt l operands place pred
       more_given {pred = pred} g = record { operand = g.operand; is = g.is; gives = gives_at_end pred g.operand g.gives }
-  full_extends b p m kind preds (replaced q qs some each) =
-      replaced q qs (preds ∙ some)
+  full_extends b p m (inr e) preds (replaced went q qs some each) = absurd (gone_is_no_phi [] (k.shape.kind p) went e.0)
+  full_extends b p m (inl kind) preds (replaced went q qs some each) =
+      replaced (kind ∙ went) q qs (preds ∙ some)
       (λ place pred h. subst (λ x. Gives l (l.wrote pred) pred x) (sym (more.made_stays b p m))
       (gives_at_end pred (k.shape.current p) (each place pred (ap (λ qs. slice_get qs place) (sym preds) ∙ h))))
 
@@ -98,7 +118,7 @@ module _ {V : Type 0} (k : View V) (t : Shape V) (old to : V) (only : HasOnly k.
 
   chain_replaced : (n b : ℕ) → Chain k n b → Chain after n b
   chain_replaced zero b c = no_step
-  chain_replaced (suc n) b (step q sealed preds c) = step q sealed (r.same_blocks.preds b ∙ preds) (chain_replaced n q c)
+  chain_replaced (suc n) b (step q sealed preds unwritten c) = step q sealed (r.same_blocks.preds b ∙ preds) unwritten (chain_replaced n q c)
 
   gives_replaced : (own : Option V) (b : ℕ) (v w : V) → Becomes old to v w → Gives k own b v → Gives after own b w
   gives_replaced own b v w becomes (written u is same) =
@@ -107,12 +127,12 @@ module _ {V : Type 0} (k : View V) (t : Shape V) (old to : V) (only : HasOnly k.
       entered p none m (becomes_one old to (k.shape.current p) w (t.current p) (subst (λ x. Becomes old to x w) same becomes) (r.current p))
   gives_replaced own b v w becomes (passed q none sealed preds g) =
       passed q none sealed (r.same_blocks.preds b ∙ preds) (gives_replaced (k.wrote q) q v w becomes g)
-  gives_replaced own b v w becomes (endless none kind chain) = by becomes
+  gives_replaced own b v w becomes (endless none lost kind chain) = by becomes
     where
       by : Becomes old to v w → Gives after own b w
       by (inl h) = absurd (unknown_is_no_phi only.operands (k.shape.kind old) (ap k.shape.kind (sym h.0) ∙ kind) only.kind_is)
       by (inr h) =
-          endless none
+          endless none (lost ∙ ap Some (sym h.1))
           (ap t.kind h.1 ∙ unknown_becomes old to (k.shape.kind v) (t.kind v) kind (r.kinds v h.0))
           (λ n. chain_replaced n b (chain n))
 
@@ -122,6 +142,11 @@ module _ {V : Type 0} (k : View V) (t : Shape V) (old to : V) (only : HasOnly k.
       by : Becomes old to (k.shape.current x) (t.current x) → t.current x ≡ x
       by (inl h) = absurd (differs (sym own ∙ h.0))
       by (inr h) = h.1 ∙ own
+
+  stays_gone : (x : V) → k.shape.kind x ≡ gone → t.kind x ≡ gone
+  stays_gone x e =
+      subst (λ kind. KindBecomes old to kind (t.kind x)) e
+      (r.kinds x (λ h. gone_is_no_phi only.operands (k.shape.kind old) (ap k.shape.kind (sym h) ∙ e) only.kind_is))
 
   to_itself : Becomes old to to to
   to_itself = inr (only.differs, refl)
@@ -168,13 +193,13 @@ module _ {V : Type 0} (k : View V) (t : Shape V) (old to : V) (only : HasOnly k.
       some : p ≡ old → (qs : List ℕ) → k.shape.preds b ≡ qs → Full after b p
       some e [] none = absurd (omega (arith, only.among.1, ap (λ xs. length xs) (same_operands operands only.operands (k.shape.kind old) (ap k.shape.kind (sym e) ∙ is) only.kind_is), size, ap (λ qs. length qs) none))
       some e (q ∷ qs) more =
-          replaced q qs (r.same_blocks.preds b ∙ more) (λ place pred h. given e (each place pred (old_preds place pred h)))
+          replaced (ap t.kind e ∙ r.went) q qs (r.same_blocks.preds b ∙ more) (λ place pred h. given e (each place pred (old_preds place pred h)))
 
       by : (p ≡ old) ⊎ (p ≡ old → ⊥) → Full after b p
       by (inl e) = some e (k.shape.preds b) refl
       by (inr differs) = kept differs (phi_becomes old to operands (k.shape.kind p) (t.kind p) is (r.kinds p differs))
-  full_replaced b p (replaced q qs some each) =
-      replaced q qs (r.same_blocks.preds b ∙ some)
+  full_replaced b p (replaced went q qs some each) =
+      replaced (stays_gone p went) q qs (r.same_blocks.preds b ∙ some)
       (λ place pred h. gives_replaced (k.wrote pred) pred (k.shape.current p) (t.current p) (r.current p) (each place pred (ap (λ qs. slice_get qs place) (sym (r.same_blocks.preds b)) ∙ h)))
 
   pub gives_after : (own : Option V) (b : ℕ) (v w : V) → Becomes old to v w → Gives k own b v → Gives after own b w

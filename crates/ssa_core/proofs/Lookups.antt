@@ -33,10 +33,10 @@ module _ {V : Type 0} where
     within = λ index place value h. absurd (none_is_not_some (place, value) h);
   }
 
-  of_write : Write V → ℕ → ℕ → Option V
+  unfoldable pub of_write : Write V → ℕ → ℕ → Option V
   of_write w var block = cond ((var == w.var) && (block == w.block)) (Some w.value) None
 
-  last_write_push : (ws : List (Write V)) (w : Write V) (var block : ℕ)
+  pub last_write_push : (ws : List (Write V)) (w : Write V) (var block : ℕ)
       → last_write (ws ++ w ∷ []) var block ≡ later_of (last_write ws var block) (of_write w var block)
   unfolding last_write of_write
   last_write_push [] w var block = sym (later_none (of_write w var block))
@@ -146,10 +146,10 @@ module _ {V : Type 0} where
           (ext.fresh block state past at).1
           ∙ sym (none_made 0 made block (λ index place value is. omega (arith, kept.within index place value is, past)))
 
-is_flagged : Option BlockState → Bool
+unfoldable pub is_flagged : Option BlockState → Bool
 is_flagged found = unwrap_or (option_map (λ b. b.is_sealed) found) false
 
-flag_at : (xs : List BlockState) (block : ℕ) → sealed_in (map (λ b. b.is_sealed) xs) block ≡ is_flagged (slice_get xs block)
+pub flag_at : (xs : List BlockState) (block : ℕ) → sealed_in (map (λ b. b.is_sealed) xs) block ≡ is_flagged (slice_get xs block)
 unfolding is_flagged
 flag_at xs block = ap (λ o. unwrap_or o false) (slice_get-map (λ b. b.is_sealed) xs block)
 

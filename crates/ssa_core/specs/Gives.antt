@@ -1,21 +1,24 @@
 -- When a value is what a variable has at the end of a block, by looking back block by block.
 use Rattle.std.specs.Prelude.{◌≡◌, ℕ, zero, suc, Bool, true, List, [], ◌∷◌, length, Option, Some, None}
 use Rattle.std.specs.List.{slice_get}
-use Rattle.ssa_core.specs.Shapes.{Shape, unknown, phi}
+use Rattle.ssa_core.specs.Shapes.{Shape, gone, unknown, phi}
 use Rattle.ssa_core.specs.Walks.{Walk, end, IsWalk, Visits}
 
 -- What is known of one variable: the target, which blocks are sealed, the value last written to the variable in each
--- block, and the value that was made for it at the start of each block.
+-- block, the value that was made for it at the start of each block, and the unknown value that was made for it in each block
+-- that no walk comes to.
 pub record View (V : Type 0) : Type 0 where
   pub shape : Shape V
   pub sealed : ℕ → Bool
   pub wrote : ℕ → Option V
   pub made : ℕ → Option V
+  pub lost : ℕ → Option V
 
--- back from the block, so many sealed blocks with one predecessor follow each other
+-- back from the block, so many sealed blocks with one predecessor follow each other, and in none behind it the variable was
+-- written
 pub data Chain {V : Type 0} (k : View V) : ℕ → ℕ → Type 0 where
   no_step : {b : ℕ} → Chain k zero b
-  step : {n b : ℕ} → (q : ℕ) → k.sealed b ≡ true → k.shape.preds b ≡ q ∷ [] → Chain k n q → Chain k (suc n) b
+  step : {n b : ℕ} → (q : ℕ) → k.sealed b ≡ true → k.shape.preds b ≡ q ∷ [] → k.wrote q ≡ None → Chain k n q → Chain k (suc n) b
 
 -- Where `own` is the value last written to the variable in the block, v is the one at the block's end: this one, or the
 -- one at the block's start. That is the one made there, or that at the end of the only predecessor of a sealed block, or,
@@ -26,7 +29,7 @@ pub data Gives {V : Type 0} (k : View V) : Option V → ℕ → V → Type 0 whe
   passed : {own : Option V} {b : ℕ} {v : V} → (q : ℕ) → own ≡ None → k.sealed b ≡ true → k.shape.preds b ≡ q ∷ []
       → Gives k (k.wrote q) q v → Gives k own b v
   -- no walk comes to the block
-  endless : {own : Option V} {b : ℕ} {v : V} → own ≡ None → k.shape.kind v ≡ unknown → ((n : ℕ) → Chain k n b) → Gives k own b v
+  endless : {own : Option V} {b : ℕ} {v : V} → own ≡ None → k.lost b ≡ Some v → k.shape.kind v ≡ unknown → ((n : ℕ) → Chain k n b) → Gives k own b v
 
 -- the operand for a predecessor is what the variable has at the end of that predecessor
 pub record IsGivenAt {V : Type 0} (k : View V) (operands : List V) (place pred : ℕ) : Type 0 where
@@ -43,7 +46,7 @@ pub data Full {V : Type 0} (k : View V) (b : ℕ) (p : V) : Type 0 where
       → ((place pred : ℕ) → slice_get (k.shape.preds b) place ≡ Some pred → IsGivenAt k operands place pred)
       → Full k b p
   -- a Phi that was replaced, by what the variable has at the end of each predecessor
-  replaced : (q : ℕ) (qs : List ℕ) → k.shape.preds b ≡ q ∷ qs
+  replaced : k.shape.kind p ≡ gone → (q : ℕ) (qs : List ℕ) → k.shape.preds b ≡ q ∷ qs
       → ((place pred : ℕ) → slice_get (k.shape.preds b) place ≡ Some pred → Gives k (k.wrote pred) pred (k.shape.current p))
       → Full k b p
 

@@ -1,5 +1,5 @@
 -- How the lists that the builder keeps stand to what it looks things up in.
-use Rattle.std.specs.Prelude.{◌≡◌, ℕ, ◌<◌, ◌≤◌, false, List, [], length, Some}
+use Rattle.std.specs.Prelude.{◌≡◌, ℕ, ◌<◌, ◌≤◌, true, false, List, [], ◌∷◌, ◌++◌, length, Some}
 use Rattle.std.specs.List.{slice_get}
 use Rattle.ssa_core.specs.declared.places.Place.{Place}
 use Rattle.ssa_core.specs.declared.notes.Write.{Write}
@@ -18,3 +18,33 @@ pub record IsExtended (old new : List BlockState) : Type 0 where
   pub longer : length old ≤ length new
   pub same : (block : ℕ) → block < length old → slice_get new block ≡ slice_get old block
   pub fresh : (block : ℕ) (state : BlockState) → length old ≤ block → slice_get new block ≡ Some state → (state.is_sealed ≡ false) × (state.made.items ≡ [])
+
+-- the state at the block changes as `change` says, and all others are as before
+pub record ChangesAt (change : BlockState → BlockState → Type 0) (old new : List BlockState) (block : ℕ) : Type 0 where
+  pub same_length : length new ≡ length old
+  pub before : BlockState
+  pub was : slice_get old block ≡ Some before
+  pub after : BlockState
+  pub is : slice_get new block ≡ Some after
+  pub changes : change before after
+  pub others : (b : ℕ) → (b ≡ block → ⊥) → slice_get new b ≡ slice_get old b
+
+-- it has one index more at the end of its list
+pub record IsListed (index : ℕ) (before after : BlockState) : Type 0 where
+  pub flag : after.is_sealed ≡ before.is_sealed
+  pub lists : after.made.items ≡ before.made.items ++ index ∷ []
+
+-- it has lost the last index of its list
+pub record IsUnlisted (before after : BlockState) : Type 0 where
+  pub flag : after.is_sealed ≡ before.is_sealed
+  pub lists : (rest : List ℕ) (index : ℕ) → before.made.items ≡ rest ++ index ∷ [] → after.made.items ≡ rest
+
+-- it is sealed
+pub record IsSealed (before after : BlockState) : Type 0 where
+  pub flag : after.is_sealed ≡ true
+  pub lists : after.made.items ≡ before.made.items
+
+-- it has the same in it
+pub record IsAlike (before after : BlockState) : Type 0 where
+  pub flag : after.is_sealed ≡ before.is_sealed
+  pub lists : after.made.items ≡ before.made.items

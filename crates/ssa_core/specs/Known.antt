@@ -9,19 +9,21 @@ use Rattle.ssa_core.specs.Places.{found}
 use Rattle.ssa_core.specs.Shapes.{Shape}
 use Rattle.ssa_core.specs.Gives.{View}
 
--- The calls of `write` and of `read`, each list in order; the values that were made, in order; the values at the ends of
--- blocks that were passed; of each block up to some number, whether it is sealed; and whether a call was refused.
+-- The calls of `write` and of `read`, each list in order; the values that were made at the starts of blocks, in order; for
+-- each block that was passed a block from which its value comes; the values that were made where no walk comes; of each block
+-- up to some number, whether it is sealed; and whether a call was refused.
 pub record Known (V : Type 0) : Type 0 where
   pub writes : List (Write V)
   pub reads : List (Read V)
   pub made : List (Place × V)
-  pub passed : List (Place × V)
+  pub passed : List (Place × ℕ)
+  pub lost : List (Place × V)
   pub sealed : List Bool
   pub spent : Bool
 
 -- before any call
 abbrev pub nothing_known : {V : Type 0} → Known V
-nothing_known = record { writes = []; reads = []; made = []; passed = []; sealed = []; spent = false }
+nothing_known = record { writes = []; reads = []; made = []; passed = []; lost = []; sealed = []; spent = false }
 
 -- the later of two, where there are both
 abbrev pub later_of : {X : Type 0} → Option X → Option X → Option X
@@ -39,7 +41,7 @@ sealed_in flags block = unwrap_or (slice_get flags block) false
 
 -- what is known of one variable
 abbrev pub view : {V : Type 0} → Known V → Shape V → ℕ → View V
-view k s var = record { shape = s; sealed = sealed_in k.sealed; wrote = last_write k.writes var; made = found k.made var }
+view k s var = record { shape = s; sealed = sealed_in k.sealed; wrote = last_write k.writes var; made = found k.made var; lost = found k.lost var }
 
 -- the indices, from `next` on, of the values that were made in the block
 unfoldable pub indices_from : {V : Type 0} → ℕ → List (Place × V) → ℕ → List ℕ

@@ -3,10 +3,11 @@
 use Rattle.std.specs.Prelude.{◌≡◌, ℕ, ◌⊎◌, List, [], ◌∷◌, ◌++◌, length}
 use Rattle.std.specs.List.{Contains}
 
--- a value is a machine word, or the state of memory
+-- a value is a machine word, or the state of memory, or what no variable has
 pub data Mode : Type 0 where
   word : Mode
   memory : Mode
+  neither : Mode
 
 -- What a value is at a moment. `absent` was never there, `gone` was there and another value was put in its place. A Phi
 -- has the operands that were appended so far, one for each predecessor of its block where it is full.

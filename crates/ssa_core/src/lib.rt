@@ -13,18 +13,19 @@
 // what was last written on the walk, and its block stands on the walk. `laws.rt` says it, and that replacing a trivial Phi by its
 // other value keeps what it rests on.
 //
-// Not yet: the builder. `Notes` has the lists and tables that it is to keep.
-//
 // Source: Braun, Buchwald, Hack, Leißa, Mallon and Zwinkau, Simple and Efficient Construction of Static Single Assignment Form
 // (2013), with pending work in a list in place of its recursion.
 #![tactic(auto)]
 
+mod builder;
 mod laws;
 mod notes;
 mod places;
 mod target;
+mod work;
 
+pub use builder::SsaBuilder;
 pub use laws::{given_is_last, replacing_keeps};
-pub use notes::{Notes, Read, Write};
+pub use notes::{Read, Write};
 pub use places::Place;
 pub use target::SsaTarget;

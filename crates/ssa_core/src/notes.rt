@@ -1,11 +1,13 @@
 // What the builder keeps.
-ghost use Rattle.std.specs.Prelude.{◌≡◌, ℕ, ◌+◌, ◌<◌, ◌++◌, ◌∷◌, [], true, false, Bool, List, length, Option, Some, None, IfOk, OnOk, OnErr};
+ghost use Rattle.std.specs.Prelude.{◌≡◌, ℕ, ◌+◌, ◌^◌, ◌<◌, ◌++◌, ◌∷◌, [], true, false, Bool, List, length, Option, Some, None, IfOk, OnOk, OnErr};
+ghost use Rattle.std.specs.Option.{IfSome, IfNone};
 ghost use Rattle.std.specs.List.{slice_get};
 ghost use Rattle.ssa_core.specs.Places.{found, place, Puts};
 ghost use Rattle.ssa_core.specs.Known.{nothing_known, last_write, sealed_in, indices_in};
-ghost use Rattle.ssa_core.specs.Kept.{IsExtended};
+ghost use Rattle.ssa_core.specs.Steps.{known_value, IsTrailNoted};
+ghost use Rattle.ssa_core.specs.Kept.{IsExtended, ChangesAt, IsListed, IsUnlisted, IsSealed, IsAlike};
 
-use crate::places::{Place, Places};
+use crate::places::{Entry, Places};
 use std::alloc::{AllocError, Global};
 use std::marker::Model;
 
@@ -44,11 +46,11 @@ pub struct Notes<V: Drop> {
     written: Places<V>,
     // The Phi or unknown value that was made for the variable at the start of the block.
     made: Places<V>,
-    // The value at the end of a sealed block with one predecessor in which the variable was not written.
-    passed: Places<V>,
+    // The nearest block, at the time when the block was passed.
+    passed: Places<usize>,
+    // The unknown value for a block that no walk comes to.
+    lost: Places<V>,
     blocks: Vec<BlockState>,
-    // A call was refused, or is under way.
-    is_spent: bool,
 }
 
 impl<V: Drop> Model for Notes<V> {
@@ -56,7 +58,7 @@ impl<V: Drop> Model for Notes<V> {
 
     ghost Value = { Known V };
 
-    ghost use Rattle.std.specs.Prelude.{map};
+    ghost use Rattle.std.specs.Prelude.{map, false};
     ghost use Rattle.ssa_core.specs.Kept.{Indexes};
 
     ghost view = { λ s. record {
@@ -64,8 +66,9 @@ impl<V: Drop> Model for Notes<V> {
       reads = s.reads.items;
       made = s.made;
       passed = s.passed;
+      lost = s.lost;
       sealed = map (λ b. b.is_sealed) s.blocks.items;
-      spent = s.is_spent;
+      spent = false;
     } };
 
     ghost invariant = { λ s. Indexes s.writes.items s.written s.made s.blocks.items };
@@ -82,33 +85,13 @@ impl<V: Copy> Notes<V> {
             written: Places::new(alloc),
             made: Places::new(alloc),
             passed: Places::new(alloc),
+            lost: Places::new(alloc),
             blocks: Vec::new(alloc),
-            is_spent: false,
         }
     }
 
     pub fn allocator(&self) -> Global {
         self.alloc
-    }
-
-    /// Refuses after a refusal, and from here on until `finish`.
-    pub fn begin(&mut self) -> Result<(), AllocError>
-        ensures ok { OnOk result (self.new ≡ record self.old { spent = true }) }
-        ensures ready { OnOk result (self.old.spent ≡ false) }
-        ensures err { OnErr result (self.new ≡ self.old) }
-        ensures spent { OnErr result (self.old.spent ≡ true) }
-    {
-        if self.is_spent {
-            return Err(AllocError);
-        }
-        self.is_spent = true;
-        Ok(())
-    }
-
-    pub fn finish(&mut self)
-        ensures { self.new ≡ record self.old { spent = false } }
-    {
-        self.is_spent = false;
     }
 
     pub fn is_sealed(&self, block: usize) -> bool
@@ -127,11 +110,18 @@ impl<V: Copy> Notes<V> {
         self.written.get(var, block)
     }
 
-    /// The value that was found at the end of the block when it was passed.
-    pub fn passed(&self, var: usize, block: usize) -> Option<V>
+    /// The block that was the nearest when the block was passed.
+    pub fn passed(&self, var: usize, block: usize) -> Option<usize>
         ensures { result ≡ found self.now.passed var block }
     {
         self.passed.get(var, block)
+    }
+
+    /// The unknown value that was made for the variable in the block, which no walk comes to.
+    pub fn lost(&self, var: usize, block: usize) -> Option<V>
+        ensures { result ≡ found self.now.lost var block }
+    {
+        self.lost.get(var, block)
     }
 
     /// The value that was made for the variable in the block.
@@ -141,14 +131,26 @@ impl<V: Copy> Notes<V> {
         self.made.get(var, block)
     }
 
+    /// What was written in the block, and else what was made there.
+    pub fn known(&self, var: usize, block: usize) -> Option<V>
+        ensures { result ≡ known_value self.now var block }
+    {
+        match self.written(var, block) {
+            Some(value) => Some(value),
+            None => self.made(var, block),
+        }
+    }
+
     pub fn made_count(&self) -> usize
         ensures { result ≡ length self.now.made }
     {
         self.made.len()
     }
 
-    pub fn made_at(&self, index: usize) -> Option<(Place, V)>
-        ensures { result ≡ slice_get self.now.made index }
+    pub fn made_at(&self, index: usize) -> Option<Entry<V>>
+        ensures some { IfSome result (λ entry. slice_get self.now.made index ≡ Some (entry.place, entry.value)) }
+        ensures none { IfNone result (slice_get self.now.made index ≡ None) }
+        ensures more { IfSome result (λ entry. index + 1 < 2 ^ 64) }
     {
         self.made.at(index)
     }
@@ -173,13 +175,63 @@ impl<V: Copy> Notes<V> {
         Ok(())
     }
 
-    /// The value at the end of a passed block.
-    pub fn note_passed(&mut self, var: usize, block: usize, value: V) -> Result<(), AllocError>
+    // The nearest block of a passed one.
+    fn note_passed(&mut self, var: usize, block: usize, stop: usize) -> Result<(), AllocError>
         ensures rest { OnOk result (self.new ≡ record self.old { passed = self.new.passed }) }
-        ensures puts { OnOk result (Puts self.old.passed self.new.passed var block value) }
+        ensures puts { OnOk result (Puts self.old.passed self.new.passed var block stop) }
     {
-        self.passed.put(var, block, value)?;
+        self.passed.put(var, block, stop)?;
         Ok(())
+    }
+
+    /// The nearest block of each of the trail.
+    pub fn note_trail(&mut self, var: usize, trail: &[usize], stop: usize) -> Result<(), AllocError>
+        ensures rest { OnOk result (self.new ≡ record self.old { passed = self.new.passed }) }
+        ensures noted { OnOk result (IsTrailNoted self.old.passed self.new.passed var trail.now stop) }
+    {
+        for block in trail {
+            self.note_passed(var, *block, stop)?;
+        }
+        Ok(())
+    }
+
+    /// The unknown value for a block that no walk comes to.
+    pub fn note_lost(&mut self, var: usize, block: usize, value: V) -> Result<(), AllocError>
+        ensures rest { OnOk result (self.new ≡ record self.old { lost = self.new.lost }) }
+        ensures puts { OnOk result (Puts self.old.lost self.new.lost var block value) }
+    {
+        self.lost.put(var, block, value)?;
+        Ok(())
+    }
+
+    /// A value that is made for the variable in the block, where there is none yet.
+    pub fn note_made(&mut self, var: usize, block: usize, value: V) -> Result<(), AllocError>
+        requires { found self.old.made var block ≡ None }
+        ensures made { OnOk result (self.new.made ≡ self.old.made ++ (place var block, value) ∷ []) }
+        ensures sealed { OnOk result ((b : ℕ) → sealed_in self.new.sealed b ≡ sealed_in self.old.sealed b) }
+        ensures rest { OnOk result (self.new ≡ record self.old { made = self.new.made; sealed = self.new.sealed }) }
+    {
+        self.has_state(block)?;
+        let index = self.made.len();
+        list_index(&mut self.blocks, block, index)?;
+        if let Err(refused) = self.made.put(var, block, value) {
+            unlist_index(&mut self.blocks, block);
+            return Err(refused);
+        }
+        Ok(())
+    }
+
+    /// The block is sealed; gives the indices of the values that were made in it.
+    pub fn seal(&mut self, block: usize) -> Result<Vec<usize>, AllocError>
+        ensures sealed { OnOk result (sealed_in self.new.sealed block ≡ true) }
+        ensures others { OnOk result ((b : ℕ) → (b ≡ block → ⊥) → sealed_in self.new.sealed b ≡ sealed_in self.old.sealed b) }
+        ensures rest { OnOk result (self.new ≡ record self.old { sealed = self.new.sealed }) }
+        ensures waiting { IfOk result (λ waiting. waiting.items ≡ indices_in self.old.made block) }
+    {
+        self.has_state(block)?;
+        let waiting = self.blocks[block].made.clone()?;
+        seal_state(&mut self.blocks, block);
+        Ok(waiting)
     }
 
     /// One write more.
@@ -195,14 +247,8 @@ impl<V: Copy> Notes<V> {
         Ok(())
     }
 
-    pub fn is_spent(&self) -> bool
-        ensures { result ≡ self.now.spent }
-    {
-        self.is_spent
-    }
-
-    /// Has a state for the block and all below.
-    pub fn has_state(&mut self, block: usize) -> Result<(), AllocError>
+    // Has a state for the block and all below.
+    fn has_state(&mut self, block: usize) -> Result<(), AllocError>
         ensures there { OnOk result (block < length self.new.sealed) }
         ensures same { (b : ℕ) → sealed_in self.new.sealed b ≡ sealed_in self.old.sealed b }
         ensures rest { self.new ≡ record self.old { sealed = self.new.sealed } }
@@ -223,4 +269,29 @@ fn extend_to(states: &mut Vec<BlockState>, alloc: Global, block: usize) -> Resul
         })?;
     }
     Ok(())
+}
+
+// One index more is listed for the block.
+fn list_index(states: &mut Vec<BlockState>, block: usize, index: usize) -> Result<(), AllocError>
+    requires { block < length states.old.items }
+    ensures ok { OnOk result (ChangesAt (IsListed index) states.old.items states.new.items block) }
+    ensures err { OnErr result (ChangesAt IsAlike states.old.items states.new.items block) }
+{
+    states[block].made.push(index)?;
+    Ok(())
+}
+
+// The newest index of the block is listed no more.
+fn unlist_index(states: &mut Vec<BlockState>, block: usize)
+    requires { block < length states.old.items }
+    ensures { ChangesAt IsUnlisted states.old.items states.new.items block }
+{
+    states[block].made.pop();
+}
+
+fn seal_state(states: &mut Vec<BlockState>, block: usize)
+    requires { block < length states.old.items }
+    ensures { ChangesAt IsSealed states.old.items states.new.items block }
+{
+    states[block].is_sealed = true;
 }

@@ -1,5 +1,6 @@
 // Tables over pairs of a variable and a block.
-ghost use Rattle.std.specs.Prelude.{◌≡◌, ℕ, ◌<◌, ◌++◌, ◌∷◌, [], List, length, Option, Some, None, IfOk, OnOk, OnErr};
+ghost use Rattle.std.specs.Prelude.{◌≡◌, ℕ, ◌+◌, ◌^◌, ◌<◌, ◌++◌, ◌∷◌, [], List, length, Option, Some, None, IfOk, OnOk, OnErr};
+ghost use Rattle.std.specs.Option.{IfSome, IfNone};
 ghost use Rattle.std.specs.List.{slice_get};
 ghost use Rattle.ssa_core.specs.Places.{found, place, Puts};
 
@@ -12,6 +13,13 @@ use std::marker::Model;
 pub struct Place {
     pub var: usize,
     pub block: usize,
+}
+
+/// A value for a variable in a block.
+#[derive(Clone, Copy)]
+pub struct Entry<V> {
+    pub place: Place,
+    pub value: V,
 }
 
 /// At most one value for each variable in each block, in the order in which they came.
@@ -55,11 +63,19 @@ impl<V: Copy> Places<V> {
     }
 
     /// The entry at the index.
-    pub fn at(&self, index: usize) -> Option<(Place, V)>
-        ensures { result ≡ slice_get self.now index }
+    pub fn at(&self, index: usize) -> Option<Entry<V>>
+        ensures some { IfSome result (λ entry. slice_get self.now index ≡ Some (entry.place, entry.value)) }
+        ensures none { IfNone result (slice_get self.now index ≡ None) }
+        ensures more { IfSome result (λ entry. index + 1 < 2 ^ 64) }
     {
+        if self.map.len() <= index {
+            return None;
+        }
         match self.map.get_index(index) {
-            Some((place, value)) => Some((*place, *value)),
+            Some((place, value)) => Some(Entry {
+                place: *place,
+                value: *value,
+            }),
             None => None,
         }
     }

@@ -2,7 +2,7 @@
 ghost use Rattle.std.specs.Prelude.{◌≡◌, ℕ, Bool, true, ◌<◌, ◌⊎◌, List, [], length, Option, Some, None, IfOk, OnOk};
 ghost use Rattle.std.specs.Option.{IfSome, IfNone};
 ghost use Rattle.std.specs.List.{slice_get};
-ghost use Rattle.ssa_core.specs.Shapes.{Shape, Mode, ValueKind, absent, unknown, phi, IsThere, IsPhi, IsMade, Stands, IsAppended, HasOnly, IsReplaced};
+ghost use Rattle.ssa_core.specs.Shapes.{Shape, Mode, ValueKind, absent, unknown, phi as phi_of, IsThere, IsPhi, IsMade, Stands, IsAppended, HasOnly, IsReplaced};
 
 use std::alloc::AllocError;
 
@@ -25,6 +25,11 @@ pub trait SsaTarget {
     /// The meaning of what the target has.
     ghost run: { Self → meaning };
 
+    /// What else the target has.
+    ghost remainder: { Type 0 };
+
+    ghost rest: { Self → remainder };
+
     /// How many predecessors the block has.
     fn pred_count(&self, block: usize) -> usize
         requires { block < (shape self.now).blocks }
@@ -40,14 +45,17 @@ pub trait SsaTarget {
     /// A new Phi of the variable's mode, in the block, without operands.
     fn phi(&mut self, block: usize, var: usize) -> Result<Self::Value, AllocError>
         requires { block < (shape self.old).blocks }
-        ensures { IfOk result (λ v. IsMade (shape self.old) (shape self.new) v block (phi []) (mode_of var)) };
+        ensures made { IfOk result (λ v. IsMade (shape self.old) (shape self.new) v block (phi_of []) (mode_of var)) }
+        ensures keeps { OnOk result (rest self.new ≡ rest self.old) };
 
     /// Gives the Phi its next operand.
     fn append(&mut self, phi: Self::Value, operand: Self::Value) -> Result<(), AllocError>
         requires is_phi { IsPhi (shape self.old) phi }
         requires there { IsThere (shape self.old) operand }
+        requires room { (operands : _) → (shape self.old).kind phi ≡ phi_of operands → length operands < length ((shape self.old).preds ((shape self.old).block phi)) }
         requires alike { (shape self.old).mode operand ≡ (shape self.old).mode phi }
-        ensures { OnOk result (IsAppended (shape self.old) (shape self.new) phi operand) };
+        ensures appended { OnOk result (IsAppended (shape self.old) (shape self.new) phi operand) }
+        ensures keeps { OnOk result (rest self.new ≡ rest self.old) };
 
     /// The value that can stand in the place of the Phi, where it is trivial.
     fn only_operand(&self, phi: Self::Value) -> Option<Self::Value>
@@ -57,6 +65,7 @@ pub trait SsaTarget {
 
     /// Puts `new` in the place of `old`, a trivial Phi, at every use.
     fn replace(&mut self, old: Self::Value, new: Self::Value) -> Result<(), AllocError>
+        requires current { (shape self.old).current old ≡ old }
         requires trivial { HasOnly (shape self.old) old new }
         requires there { IsThere (shape self.old) new }
         requires alike { (shape self.old).mode new ≡ (shape self.old).mode old }
@@ -72,7 +81,8 @@ pub trait SsaTarget {
     /// An unknown value of the variable's mode, in the block. It may have been there before.
     fn unknown(&mut self, block: usize, var: usize) -> Result<Self::Value, AllocError>
         requires { block < (shape self.old).blocks }
-        ensures { IfOk result (λ v. Stands (shape self.old) (shape self.new) v block unknown (mode_of var)) };
+        ensures made { IfOk result (λ v. Stands (shape self.old) (shape self.new) v block unknown (mode_of var)) }
+        ensures keeps { OnOk result (rest self.new ≡ rest self.old) };
 
     /// Values that compare equal are the same.
     ghost same: { (a b : Self.Value) → Self.Value.eq a b ≡ true → a ≡ b };
