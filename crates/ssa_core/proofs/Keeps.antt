@@ -15,7 +15,7 @@ pub record Extends {V : Type 0} (k l : View V) : Type 0 where
   pub made : (b : ℕ) (p : V) → k.made b ≡ Some p → l.made b ≡ Some p
   pub made_stays : (b : ℕ) (p : V) → k.made b ≡ Some p → l.shape.current p ≡ k.shape.current p
   pub lost : (b : ℕ) (v : V) → k.lost b ≡ Some v → l.lost b ≡ Some v
-  pub unknown_stays : (v : V) → k.shape.kind v ≡ unknown → l.shape.kind v ≡ unknown
+  pub unknown_stays : (b : ℕ) (v : V) → k.lost b ≡ Some v → k.shape.kind v ≡ unknown → l.shape.kind v ≡ unknown
 
 -- what is written in the block is the same
 abbrev pub OwnStays : {V : Type 0} → View V → View V → Option V → Type 0
@@ -36,7 +36,7 @@ module _ {V : Type 0} (k l : View V) (more : Extends k l) where
       let there = gives_extends (k.wrote q) q v (more.wrote_stays q) g in
       passed q none (more.sealed b sealed) (more.preds b sealed ∙ preds) (subst (λ o. Gives l o q v) (sym (more.wrote q)) there)
   gives_extends own b v stays (endless none lost kind chain) =
-      endless none (more.lost b v lost) (more.unknown_stays v kind) (λ n. chain_extends n b (chain n))
+      endless none (more.lost b v lost) (more.unknown_stays b v lost kind) (λ n. chain_extends n b (chain n))
 
   -- what is given at the end of a block, with all its writes
   pub gives_at_end : (b : ℕ) (v : V) → Gives k (k.wrote b) b v → Gives l (l.wrote b) b v
@@ -75,7 +75,7 @@ module _ {V : Type 0} (k l : View V) (more : Extends k l) where
 -- ---- a trivial Phi is replaced
 
 module _ {V : Type 0} where
-  becomes_one : (old to x y z : V) → Becomes old to x y → Becomes old to x z → y ≡ z
+  pub becomes_one : (old to x y z : V) → Becomes old to x y → Becomes old to x z → y ≡ z
   becomes_one old to x y z (inl a) (inl b) = a.1 ∙ sym b.1
   becomes_one old to x y z (inl a) (inr b) = absurd (b.0 a.0)
   becomes_one old to x y z (inr a) (inl b) = absurd (a.0 b.0)
@@ -102,10 +102,10 @@ module _ {V : Type 0} where
   same_operands : (xs ys : List V) (kind : ValueKind V) → kind ≡ phi xs → kind ≡ phi ys → xs ≡ ys
   same_operands xs ys kind e f = grind (arith, e, f)
 
-  unknown_becomes : (old to : V) (kind new : ValueKind V) → kind ≡ unknown → KindBecomes old to kind new → new ≡ unknown
+  pub unknown_becomes : (old to : V) (kind new : ValueKind V) → kind ≡ unknown → KindBecomes old to kind new → new ≡ unknown
   unknown_becomes old to kind new e h = subst (λ x. KindBecomes old to x new) e h
 
-  phi_becomes : (old to : V) (operands : List V) (kind new : ValueKind V) → kind ≡ phi operands → KindBecomes old to kind new → PhiBecomes old to operands new
+  pub phi_becomes : (old to : V) (operands : List V) (kind new : ValueKind V) → kind ≡ phi operands → KindBecomes old to kind new → PhiBecomes old to operands new
   phi_becomes old to operands kind new e h = subst (λ x. KindBecomes old to x new) e h
 
   place_of : (xs : List V) (i : ℕ) (x : V) → slice_get xs i ≡ Some x → Contains xs x
@@ -116,7 +116,7 @@ module _ {V : Type 0} (k : View V) (t : Shape V) (old to : V) (only : HasOnly k.
   abbrev after : View V
   after = record k { shape = t }
 
-  chain_replaced : (n b : ℕ) → Chain k n b → Chain after n b
+  pub chain_replaced : (n b : ℕ) → Chain k n b → Chain after n b
   chain_replaced zero b c = no_step
   chain_replaced (suc n) b (step q sealed preds unwritten c) = step q sealed (r.same_blocks.preds b ∙ preds) unwritten (chain_replaced n q c)
 

@@ -1,4 +1,5 @@
 mod Among
+mod Editing
 mod Endless
 mod Filling
 mod Finding
@@ -6,6 +7,7 @@ mod GlobalTheorem
 mod Keeps
 mod Lookups
 mod Making
+mod Meaning
 mod Moves
 mod Reading
 mod Results

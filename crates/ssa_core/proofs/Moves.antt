@@ -91,7 +91,7 @@ module _ {V : Type 0} (modes : ℕ → Mode) (k l : Known V) (s t : Shape V) (ke
     made_stays = λ b p is. let at = found_at_index k.made x b p is in
         (m.places p (kept.made at.index (place x b) p at.is).can_give.once).current;
     lost = m.lost x;
-    unknown_stays = m.unknowns;
+    unknown_stays = λ b v is. m.unknowns v;
   }
 
   pub there_moves : (v : V) → IsThere s v → IsThere t v

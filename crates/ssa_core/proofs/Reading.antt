@@ -94,7 +94,7 @@ module _ {V : Type 0} (asked : ℕ → Type 0) (ends : List ℕ) where
 
 -- ---- after a part of a call that settles all
 
-among_taken : {X : Type 0} (ws : List X) (n i : ℕ) (w : X) → slice_get (take n ws) i ≡ Some w → slice_get ws i ≡ Some w
+pub among_taken : {X : Type 0} (ws : List X) (n i : ℕ) (w : X) → slice_get (take n ws) i ≡ Some w → slice_get ws i ≡ Some w
 among_taken [] zero i w is = is
 among_taken [] (suc n) i w is = is
 among_taken (x ∷ ws) zero i w is = absurd (none_is_not_some w is)

@@ -5,6 +5,7 @@ pub mod Known
 pub mod Kept
 pub mod Laws
 pub mod Places
+pub mod Reads
 pub mod Shapes
 pub mod Steps
 pub mod Walks

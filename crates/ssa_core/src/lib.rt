@@ -25,7 +25,7 @@ mod target;
 mod work;
 
 pub use builder::SsaBuilder;
-pub use laws::{given_is_last, replacing_keeps};
+pub use laws::{callers_keep, given_is_last, reads_are_last, replacing_keeps};
 pub use notes::{Read, Write};
 pub use places::Place;
 pub use target::SsaTarget;
