@@ -1,20 +1,19 @@
 -- A caller changes the target between calls.
-use Rattle.std.proofs.Common.{◌≡◌, ℕ, zero, suc, ◌+◌, ◌<◌, ◌≤◌, ◌⊎◌, inl, inr, true, List, [], ◌∷◌, length, take, Option, Some, None, refl, sym, ap, ◌∙◌, subst, arith}
+use Rattle.std.proofs.Common.{◌≡◌, ℕ, zero, suc, ◌<◌, ◌⊎◌, inl, inr, true, List, [], ◌∷◌, length, take, Some, refl, sym, ap, ◌∙◌, subst, arith}
 use Rattle.std.specs.List.{slice_get}
 use Rattle.ssa_core.specs.declared.places.Place.{Place}
-use Rattle.ssa_core.specs.declared.notes.Write.{Write}
 use Rattle.ssa_core.specs.declared.notes.Read.{Read}
 use Rattle.ssa_core.specs.Places.{place, found}
-use Rattle.ssa_core.specs.Shapes.{Shape, Mode, ValueKind, absent, gone, unknown, phi, other, IsThere, SameValue, HasOnly, IsReplaced, Becomes, KindBecomes, PhiBecomes, AllBecome}
-use Rattle.ssa_core.specs.Gives.{View, Gives, Chain, no_step, step, Full}
+use Rattle.ssa_core.specs.Shapes.{Shape, Mode, ValueKind, absent, gone, unknown, phi, other, IsThere, HasOnly, IsReplaced, Becomes, KindBecomes, PhiBecomes, AllBecome}
+use Rattle.ssa_core.specs.Gives.{Gives, Full}
 use Rattle.ssa_core.specs.Known.{Known, last_write, sealed_in, view}
-use Rattle.ssa_core.specs.Back.{Back, stay, back, IsPassed, IsLost}
-use Rattle.ssa_core.specs.Building.{CanGive, Stage, filled, waits, MadeWell, IsKept, IsDone, IsAmong, ReadWell, IsSettled}
+use Rattle.ssa_core.specs.Back.{Back, stay, back}
+use Rattle.ssa_core.specs.Building.{CanGive, Stage, filled, waits, IsAmong, IsSettled}
 use Rattle.ssa_core.specs.Reads.{IsOfBuilder, was_written_to, was_made_for, was_lost_for, was_read, IsEdited}
-use Rattle.ssa_core.proofs.Among.{found_at_index, written_at, none_is_not_some}
+use Rattle.ssa_core.proofs.Among.{found_at_index, written_at}
 use Rattle.ssa_core.proofs.Reading.{among_taken}
-use Rattle.ssa_core.proofs.Keeps.{Extends, chain_extends, gives_extends, full_extends, full_replaced, gives_after, chain_replaced, phi_becomes, unknown_becomes, becomes_one}
-use Rattle.ssa_core.proofs.Moves.{phi_is_not_unknown, phi_is_not_gone, unknown_is_not_absent, same_lists}
+use Rattle.ssa_core.proofs.Keeps.{Extends, chain_extends, gives_extends, full_extends, full_replaced, gives_after, chain_replaced, phi_becomes, unknown_becomes}
+use Rattle.ssa_core.proofs.Moves.{phi_is_not_unknown, phi_is_not_gone, same_lists}
 
 module _ {V : Type 0} (modes : ℕ → Mode) (k : Known V) (s t : Shape V) (edit : IsEdited k s t) (settled : IsSettled modes k s) where
   written_of : (x b : ℕ) (u : V) → last_write k.writes x b ≡ Some u → IsOfBuilder k u

@@ -1,15 +1,15 @@
 -- A Phi gets its operands.
-use Rattle.std.proofs.Common.{◌≡◌, ℕ, zero, suc, ◌+◌, ◌<◌, ◌≤◌, ◌⊎◌, inl, inr, Bool, true, false, List, [], ◌∷◌, ◌++◌, length, get_or, take, Option, Some, None, refl, sym, ap, ◌∙◌, subst, arith}
+use Rattle.std.proofs.Common.{◌≡◌, ℕ, zero, suc, ◌+◌, ◌<◌, ◌≤◌, ◌⊎◌, inl, inr, Bool, true, false, List, [], ◌∷◌, ◌++◌, length, get_or, take, Some, refl, sym, ap, ◌∙◌, subst, arith}
 use Rattle.std.proofs.lemmas.List.{take_more, take_all, length-take-le}
 use Rattle.std.specs.List.{slice_get}
 use Rattle.ssa_core.specs.declared.places.Place.{Place}
-use Rattle.ssa_core.specs.Places.{place, found}
-use Rattle.ssa_core.specs.Shapes.{Shape, Mode, ValueKind, absent, gone, unknown, phi, IsThere, IsPhi, SameBlocks, SamePlace, SameValue, IsAppended}
-use Rattle.ssa_core.specs.Gives.{View, Gives, Full, joined, IsGivenAt}
+use Rattle.ssa_core.specs.Places.{place}
+use Rattle.ssa_core.specs.Shapes.{Shape, Mode, phi, IsThere, IsAppended}
+use Rattle.ssa_core.specs.Gives.{Gives, Full, joined, IsGivenAt}
 use Rattle.ssa_core.specs.Known.{Known, last_write, sealed_in, view}
-use Rattle.ssa_core.specs.Building.{CanGive, Stage, filled, waits, MadeWell, IsKept, IsDone, IsAmong, Gains, same_kind, gets, Grows}
-use Rattle.ssa_core.specs.Steps.{Adds, IsFilled, AreGiven}
-use Rattle.ssa_core.proofs.Among.{found_at_index, none_is_not_some, some_same}
+use Rattle.ssa_core.specs.Building.{Stage, filled, waits, MadeWell, IsKept, IsAmong, Gains, same_kind, gets, Grows}
+use Rattle.ssa_core.specs.Steps.{IsFilled, AreGiven}
+use Rattle.ssa_core.proofs.Among.{none_is_not_some, some_same}
 use Rattle.ssa_core.proofs.Keeps.{gives_at_end}
 use Rattle.ssa_core.proofs.Moves.{Moves, moves_from, moves_extends, made_moves, stage_moves, full_moves, kept_from, phi_is_not_absent, phi_is_not_gone, same_lists}
 

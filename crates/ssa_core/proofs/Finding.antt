@@ -1,5 +1,5 @@
 -- Going back from a block, and what is found there.
-use Rattle.std.proofs.Common.{◌≡◌, ℕ, zero, suc, ◌+◌, ◌<◌, ◌≤◌, ◌⊎◌, inl, inr, Bool, true, false, List, [], ◌∷◌, ◌++◌, length, Option, Some, None, refl, sym, ap, ◌∙◌, subst, arith}
+use Rattle.std.proofs.Common.{◌≡◌, ℕ, suc, ◌+◌, ◌<◌, ◌≤◌, ◌⊎◌, inl, inr, Bool, true, false, List, [], ◌∷◌, ◌++◌, length, Option, Some, None, refl, sym, ap, ◌∙◌, subst, arith}
 use Rattle.std.proofs.lemmas.List.{length-append}
 use Rattle.std.proofs.lemmas.Bool.{cases_eq}
 use Rattle.std.proofs.lemmas.Option.{slice_get_within}
@@ -7,15 +7,15 @@ use Rattle.std.specs.List.{slice_get}
 use Rattle.std.specs.Option.{unwrap_or}
 use Rattle.ssa_core.specs.declared.places.Place.{Place}
 use Rattle.ssa_core.specs.Places.{place, found, Puts}
-use Rattle.ssa_core.specs.Shapes.{Shape, Mode, ValueKind, absent, unknown, phi, IsThere, SameValue}
-use Rattle.ssa_core.specs.Gives.{View, Gives, endless, Chain}
+use Rattle.ssa_core.specs.Shapes.{Shape, Mode, SameValue}
+use Rattle.ssa_core.specs.Gives.{View, endless, Chain}
 use Rattle.ssa_core.specs.Known.{Known, last_write, sealed_in, view}
-use Rattle.ssa_core.specs.Back.{Back, stay, back, CanPass, IsNearest, IsFound, was_written, was_made, ComesToOne, IsGiven, IsRead, IsLost, IsPassed, ComesTo}
+use Rattle.ssa_core.specs.Back.{Back, stay, back, CanPass, IsFound, ComesToOne, IsGiven, IsRead, IsPassed, ComesTo}
 use Rattle.ssa_core.specs.Building.{IsKept, IsNoted, by_made, by_passed, by_lost, Makes, SameCalls, not_there}
 use Rattle.ssa_core.specs.Steps.{Adds, Advances, StepsBack, WentBack, IsOnTrail, IsTrailNoted, IsStanding, GivenFor, AreGiven, IsOpen, AreOpen, free_places}
 use Rattle.ssa_core.proofs.Among.{get_front, get_last, get_pushed, one_item, none_is_not_some, some_same, get_either, InSecond}
-use Rattle.ssa_core.proofs.Endless.{Far, near, far, endless_where_long, far_chain, no_nearest, one_nearest, back_more, back_gives, back_comes}
-use Rattle.ssa_core.proofs.Moves.{Moves, moves_from, grows_by, back_moves, kept_unmade, there_moves, given_moves}
+use Rattle.ssa_core.proofs.Endless.{Far, far, endless_where_long, far_chain, no_nearest, one_nearest, back_more, back_gives, back_comes}
+use Rattle.ssa_core.proofs.Moves.{Moves, moves_from, grows_by, back_moves, kept_unmade, given_moves}
 use Rattle.ssa_core.proofs.Making.{adds_refl, adds_trans, makes_none, makes_trans, makes_moves, makes_through, calls_trans}
 
 pub sealed_below : (flags : List Bool) (b : ℕ) → sealed_in flags b ≡ true → b < length flags

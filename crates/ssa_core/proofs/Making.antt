@@ -1,19 +1,17 @@
 -- What a call makes, as its parts make it one after the other.
-use Rattle.std.proofs.Common.{◌≡◌, ℕ, zero, suc, ◌+◌, ◌<◌, ◌≤◌, ◌==◌, ◌⊎◌, inl, inr, Bool, true, false, cond, List, [], ◌∷◌, ◌++◌, length, Option, Some, None, refl, sym, ap, ◌∙◌, subst, arith}
-use Rattle.std.proofs.lemmas.Bool.{cases_eq, cases_lt}
+use Rattle.std.proofs.Common.{◌≡◌, ℕ, zero, suc, ◌+◌, ◌<◌, ◌≤◌, ◌⊎◌, inl, inr, true, false, cond, List, [], ◌∷◌, ◌++◌, Option, Some, None, refl, sym, ap, ◌∙◌, subst, arith}
+use Rattle.std.proofs.lemmas.Bool.{cases_eq}
 use Rattle.std.proofs.lemmas.Bool.Decides.{nat_tests}
-use Rattle.std.proofs.lemmas.List.{length-append}
 use Rattle.std.specs.List.{slice_get}
 use Rattle.ssa_core.specs.declared.places.Place.{Place}
 use Rattle.ssa_core.specs.Places.{place, found, is_place}
-use Rattle.ssa_core.specs.Shapes.{Shape, Mode, ValueKind, absent, gone, unknown, phi, other, IsThere, SameBlocks, SamePlace, SameValue, Stands}
-use Rattle.ssa_core.specs.Gives.{View, Full, at_start}
-use Rattle.ssa_core.specs.Known.{Known, last_write, later_of, sealed_in, view}
-use Rattle.ssa_core.specs.Back.{CanPass, IsFound, was_written, was_made, ComesTo, there, ComesToOne, IsLost}
-use Rattle.ssa_core.specs.Building.{CanGive, Stage, filled, waits, MadeWell, IsKept, IsAmong, IsNoted, by_made, by_passed, by_lost, Gains, same_kind, gets, Grows, IsNewPhi, IsNeeded, unsealed, joins, starts, IsNew, IsFresh, not_there, is_unknown, is_made, Makes, SameCalls}
-use Rattle.ssa_core.specs.Steps.{Adds, Advances, IsStanding, IsFit, fit_start, fit_phi, IsOpen, AreOpen, known_value, free_places, is_free}
-use Rattle.ssa_core.proofs.Among.{found_kept, found_new, found_before, found_pushed, found_at_index, get_front, get_either, InSecond, get_pushed, one_item, append_all_assoc, append_none, none_is_not_some, some_same}
-use Rattle.ssa_core.proofs.Moves.{Moves, moves_from, grows_by, comes_one_moves, kept_from, kept_unmade, made_moves, stage_moves, can_give_moves, phi_is_not_absent, unknown_is_not_absent, phi_is_not_unknown}
+use Rattle.ssa_core.specs.Shapes.{Shape, Mode, ValueKind, absent, gone, unknown, phi, other, SameBlocks, SamePlace, Stands}
+use Rattle.ssa_core.specs.Known.{Known, sealed_in, view}
+use Rattle.ssa_core.specs.Back.{ComesToOne}
+use Rattle.ssa_core.specs.Building.{IsKept, IsAmong, IsNoted, Gains, same_kind, gets, Grows, IsNewPhi, IsNeeded, unsealed, joins, starts, IsNew, IsFresh, not_there, is_unknown, is_made, Makes, SameCalls}
+use Rattle.ssa_core.specs.Steps.{Adds, free_places, is_free}
+use Rattle.ssa_core.proofs.Among.{found_kept, found_new, found_pushed, get_front, get_either, InSecond, append_all_assoc, append_none, none_is_not_some}
+use Rattle.ssa_core.proofs.Moves.{Moves, moves_from, grows_by, comes_one_moves, phi_is_not_absent}
 
 pub same_blocks_refl : {V : Type 0} (s : Shape V) → SameBlocks s s
 same_blocks_refl s = record { first = refl; blocks = refl; preds = λ b. refl }

@@ -1,13 +1,12 @@
 -- What reads and operands mean, from what holds between calls.
-use Rattle.std.proofs.Common.{◌≡◌, ℕ, zero, suc, ◌+◌, ◌<◌, ◌≤◌, ◌⊎◌, inl, inr, true, List, [], ◌∷◌, length, take, Option, Some, None, refl, sym, ap, ◌∙◌, subst, arith}
+use Rattle.std.proofs.Common.{◌≡◌, ℕ, List, [], length, take, Option, Some, refl, sym, ap, ◌∙◌, subst, arith}
 use Rattle.std.specs.List.{slice_get}
 use Rattle.ssa_core.specs.declared.places.Place.{Place}
-use Rattle.ssa_core.specs.declared.notes.Write.{Write}
 use Rattle.ssa_core.specs.declared.notes.Read.{Read}
 use Rattle.ssa_core.specs.Places.{place, found}
-use Rattle.ssa_core.specs.Shapes.{Shape, Mode, ValueKind, gone, unknown, phi}
-use Rattle.ssa_core.specs.Walks.{Walk, end, IsWalk, Visits, along, last_with}
-use Rattle.ssa_core.specs.Gives.{View, Gives, written, entered, passed, endless, IsGivenAt, Full, at_start, joined, replaced, Reaches, IsComplete}
+use Rattle.ssa_core.specs.Shapes.{Shape, Mode, phi}
+use Rattle.ssa_core.specs.Walks.{Walk, end, Visits, along, last_with}
+use Rattle.ssa_core.specs.Gives.{Gives, written, entered, passed, endless, IsGivenAt, Full, at_start, joined, replaced, Reaches, IsComplete}
 use Rattle.ssa_core.specs.Known.{Known, last_write, view, nothing_known}
 use Rattle.ssa_core.specs.Building.{Stage, filled, waits, IsSettled, IsNoted, by_made, by_passed, by_lost}
 use Rattle.ssa_core.specs.Reads.{IsSound, ArePhisFull, IsOf, of_write, of_made, of_lost, StandsFor, ReadMeans, OperandMeans}

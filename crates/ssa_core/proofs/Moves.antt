@@ -1,17 +1,16 @@
 -- What a part of a call keeps: where values come and lists grow, what always holds holds again.
-use Rattle.std.proofs.Common.{◌≡◌, ℕ, zero, suc, ◌+◌, ◌<◌, ◌≤◌, ◌⊎◌, inl, inr, Bool, true, false, List, [], ◌∷◌, ◌++◌, length, Option, Some, None, refl, sym, ap, ◌∙◌, subst, arith}
+use Rattle.std.proofs.Common.{◌≡◌, ℕ, zero, suc, ◌<◌, ◌⊎◌, inl, inr, true, List, [], Some, sym, ap, ◌∙◌, subst, arith}
 use Rattle.std.specs.List.{slice_get}
 use Rattle.ssa_core.specs.declared.places.Place.{Place}
-use Rattle.ssa_core.specs.declared.notes.Write.{Write}
 use Rattle.ssa_core.specs.Places.{place, found}
-use Rattle.ssa_core.specs.Shapes.{Shape, Mode, ValueKind, absent, gone, unknown, phi, IsThere, SameBlocks, SamePlace, SameValue}
-use Rattle.ssa_core.specs.Gives.{View, Gives, Chain, Full}
+use Rattle.ssa_core.specs.Shapes.{Shape, Mode, ValueKind, absent, gone, unknown, phi, IsThere, SameBlocks, SamePlace}
+use Rattle.ssa_core.specs.Gives.{Full}
 use Rattle.ssa_core.specs.Known.{Known, last_write, sealed_in, view}
-use Rattle.ssa_core.specs.Back.{Back, stay, back, CanPass, IsNearest, IsFound, was_written, was_made, ComesTo, there, over, ComesToOne, IsGiven, IsRead, IsLost, IsPassed}
-use Rattle.ssa_core.specs.Building.{CanGive, Stage, filled, waits, MadeWell, IsKept, IsDone, IsAmong, Gains, same_kind, gets, Grows, SameCalls}
+use Rattle.ssa_core.specs.Back.{Back, stay, back, ComesTo, there, over, ComesToOne, IsGiven, IsLost, IsPassed}
+use Rattle.ssa_core.specs.Building.{CanGive, Stage, filled, waits, MadeWell, IsKept, IsDone, Gains, same_kind, gets, Grows}
 use Rattle.ssa_core.specs.Steps.{Adds}
-use Rattle.ssa_core.proofs.Among.{found_at_index, written_at, none_is_not_some}
-use Rattle.ssa_core.proofs.Keeps.{Extends, OwnStays, chain_extends, gives_extends, gives_at_end, full_extends}
+use Rattle.ssa_core.proofs.Among.{found_at_index, written_at}
+use Rattle.ssa_core.proofs.Keeps.{Extends, chain_extends, gives_at_end, full_extends}
 
 -- from k and s on to l and t
 pub record Moves {V : Type 0} (k l : Known V) (s t : Shape V) : Type 0 where

@@ -1,22 +1,19 @@
 -- Between calls: what holds after `read` and `write`.
-use Rattle.std.proofs.Common.{◌≡◌, ℕ, zero, suc, ◌+◌, ◌<◌, ◌≤◌, ◌⊎◌, inl, inr, Bool, true, false, List, [], ◌∷◌, ◌++◌, length, take, Option, Some, None, refl, sym, ap, ◌∙◌, subst, arith}
-use Rattle.std.proofs.lemmas.Bool.{cases_eq, cases_lt}
-use Rattle.std.proofs.lemmas.List.{length-append, take_all, take-append-le}
-use Rattle.std.proofs.lemmas.Option.{slice_get_within}
+use Rattle.std.proofs.Common.{◌≡◌, ℕ, zero, suc, ◌<◌, ◌≤◌, ◌⊎◌, inl, inr, Bool, true, false, List, [], ◌∷◌, ◌++◌, length, take, Some, refl, sym, ap, ◌∙◌, subst, arith}
+use Rattle.std.proofs.lemmas.Bool.{cases_lt}
+use Rattle.std.proofs.lemmas.List.{take_all}
 use Rattle.std.specs.List.{slice_get}
 use Rattle.ssa_core.specs.declared.places.Place.{Place}
-use Rattle.ssa_core.specs.declared.notes.Write.{Write}
 use Rattle.ssa_core.specs.declared.notes.Read.{Read}
-use Rattle.ssa_core.specs.Places.{place, found}
-use Rattle.ssa_core.specs.Shapes.{Shape, Mode, ValueKind, absent, unknown, phi, IsThere, SameBlocks, SamePlace, SameValue}
-use Rattle.ssa_core.specs.Gives.{View, Gives, written, entered, passed, endless, Full}
+use Rattle.ssa_core.specs.Shapes.{Shape, Mode, IsThere}
+use Rattle.ssa_core.specs.Gives.{Gives}
 use Rattle.ssa_core.specs.Known.{Known, last_write, sealed_in, view}
-use Rattle.ssa_core.specs.Back.{Back, stay, back, CanPass, IsNearest, IsFound, was_written, was_made, ComesTo, ComesToOne, IsGiven, IsRead, IsLost, IsPassed}
-use Rattle.ssa_core.specs.Building.{CanGive, Stage, filled, waits, MadeWell, IsKept, IsDone, WasRead, IsNoted, by_made, by_passed, by_lost, ReadWell, IsSettled, IsReady, IsAmong, IsNeeded, unsealed, joins, starts, IsNew, IsFresh, not_there, is_unknown, is_made, Makes, SameCalls}
+use Rattle.ssa_core.specs.Back.{Back, stay, back, IsFound, was_written, was_made, IsGiven, IsRead}
+use Rattle.ssa_core.specs.Building.{IsKept, IsDone, WasRead, IsNoted, by_made, by_passed, by_lost, ReadWell, IsSettled, IsReady, IsNeeded, unsealed, joins, starts, IsNew, IsFresh, not_there, is_unknown, is_made, Makes, SameCalls}
 use Rattle.ssa_core.specs.Steps.{Advances, AreReached, Settles}
-use Rattle.ssa_core.proofs.Among.{get_front, get_last, get_either, InSecond, one_item, written_at, none_is_not_some, some_same}
+use Rattle.ssa_core.proofs.Among.{get_front, get_last, get_either, InSecond, one_item, written_at, none_is_not_some}
 use Rattle.ssa_core.proofs.Keeps.{Extends, gives_extends}
-use Rattle.ssa_core.proofs.Moves.{Moves, moves_extends, back_moves, can_give_moves, given_moves}
+use Rattle.ssa_core.proofs.Moves.{Moves, moves_extends, can_give_moves, given_moves}
 use Rattle.ssa_core.proofs.Making.{makes_moves, makes_trans, calls_trans}
 use Rattle.ssa_core.proofs.Settling.{reached_new, done_stays}
 

@@ -1,22 +1,21 @@
 -- A block is sealed, and the Phis that wait in it are filled.
-use Rattle.std.proofs.Common.{◌≡◌, ℕ, zero, suc, ◌+◌, ◌-◌, ◌<◌, ◌≤◌, ◌==◌, ◌⊎◌, inl, inr, Bool, true, false, cond, List, [], ◌∷◌, ◌++◌, length, get_or, Option, Some, None, refl, sym, ap, ◌∙◌, subst, arith}
+use Rattle.std.proofs.Common.{◌≡◌, ℕ, zero, suc, ◌+◌, ◌<◌, ◌≤◌, ◌==◌, ◌⊎◌, inl, inr, Bool, true, false, cond, List, [], ◌∷◌, ◌++◌, length, Some, refl, sym, ap, ◌∙◌, subst, arith}
 use Rattle.std.proofs.lemmas.Bool.{cases_eq, cases_lt}
 use Rattle.std.proofs.lemmas.Bool.Decides.{nat_tests}
-use Rattle.std.proofs.lemmas.Option.{slice_get_within, slice_get-get_or}
+use Rattle.std.proofs.lemmas.Option.{slice_get_within}
 use Rattle.std.specs.List.{slice_get}
 use Rattle.ssa_core.specs.declared.places.Place.{Place}
-use Rattle.ssa_core.specs.declared.notes.Read.{Read}
-use Rattle.ssa_core.specs.Places.{place, found}
-use Rattle.ssa_core.specs.Shapes.{Shape, Mode, ValueKind, absent, unknown, phi, SameBlocks}
-use Rattle.ssa_core.specs.Gives.{View, Full}
-use Rattle.ssa_core.specs.Known.{Known, last_write, sealed_in, view, indices_from, indices_in}
+use Rattle.ssa_core.specs.Places.{found}
+use Rattle.ssa_core.specs.Shapes.{Shape, Mode, phi}
+use Rattle.ssa_core.specs.Gives.{Full}
+use Rattle.ssa_core.specs.Known.{Known, sealed_in, view, indices_from, indices_in}
 use Rattle.ssa_core.specs.Back.{ComesToOne}
-use Rattle.ssa_core.specs.Building.{Stage, filled, waits, IsKept, IsDone, IsSettled, WasRead, IsNoted, by_made, by_passed, by_lost, IsWaiting, same_kind, IsNeeded, unsealed, joins, starts, IsNew, IsFresh, not_there, is_unknown, is_made, Makes, SameCalls}
+use Rattle.ssa_core.specs.Building.{Stage, filled, waits, IsKept, IsDone, IsSettled, WasRead, IsNoted, by_made, by_passed, by_lost, IsWaiting, same_kind, Makes, SameCalls}
 use Rattle.ssa_core.specs.Steps.{IsOpen, Settles}
 use Rattle.ssa_core.proofs.Among.{append_none, none_is_not_some, some_same}
 use Rattle.ssa_core.proofs.Moves.{Moves, moves_from, grows_by, full_moves, made_moves, stage_moves, kept_from}
-use Rattle.ssa_core.proofs.Making.{same_blocks_refl, adds_refl, makes_refl, makes_trans, makes_through, makes_moves, calls_refl, calls_trans}
-use Rattle.ssa_core.proofs.Settling.{entry_stays, longer}
+use Rattle.ssa_core.proofs.Making.{adds_refl, makes_refl, makes_trans, makes_through, calls_refl, calls_trans}
+use Rattle.ssa_core.proofs.Settling.{entry_stays}
 use Rattle.ssa_core.proofs.Reading.{settled_after}
 
 -- ---- the indices of what was made in a block

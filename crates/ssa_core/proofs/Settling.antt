@@ -1,23 +1,23 @@
 -- Phis are filled one after the other.
-use Rattle.std.proofs.Common.{◌≡◌, ℕ, zero, suc, ◌+◌, ◌-◌, ◌<◌, ◌≤◌, ◌⊎◌, inl, inr, Bool, true, false, List, [], ◌∷◌, ◌++◌, length, get_or, Option, Some, None, refl, sym, ap, ◌∙◌, subst, arith}
+use Rattle.std.proofs.Common.{◌≡◌, ℕ, ◌+◌, ◌-◌, ◌<◌, ◌≤◌, ◌⊎◌, inl, inr, true, List, [], ◌∷◌, length, get_or, Some, None, refl, sym, ap, ◌∙◌, subst, arith}
 use Rattle.std.proofs.lemmas.Bool.{cases_eq, cases_lt}
 use Rattle.std.proofs.lemmas.List.{length-append}
 use Rattle.std.proofs.lemmas.Option.{slice_get_within, slice_get-get_or}
 use Rattle.std.specs.List.{slice_get}
 use Rattle.ssa_core.specs.declared.places.Place.{Place}
 use Rattle.ssa_core.specs.Places.{place, found}
-use Rattle.ssa_core.specs.Shapes.{Shape, Mode, ValueKind, absent, unknown, phi, IsThere, SameBlocks, SameValue}
-use Rattle.ssa_core.specs.Gives.{View, Gives, Full, joined, IsGivenAt}
-use Rattle.ssa_core.specs.Known.{Known, last_write, sealed_in, view}
+use Rattle.ssa_core.specs.Shapes.{Shape, Mode, absent, phi, SameBlocks}
+use Rattle.ssa_core.specs.Gives.{Full, joined}
+use Rattle.ssa_core.specs.Known.{Known, sealed_in, view}
 use Rattle.ssa_core.specs.Back.{ComesTo, ComesToOne}
-use Rattle.ssa_core.specs.Building.{Stage, filled, waits, IsKept, IsDone, IsAmong, IsNoted, IsFresh, not_there, is_unknown, is_made, Makes, SameCalls}
+use Rattle.ssa_core.specs.Building.{Stage, filled, waits, IsKept, IsDone, IsFresh, not_there, is_made, Makes, SameCalls}
 use Rattle.ssa_core.specs.Steps.{Adds, Advances, AreGiven, IsFilled, IsOpen, AreOpen, AreReached, Settles, free_places}
 use Rattle.ssa_core.proofs.Among.{FoundAt, found_at_index, get_front, found_kept, get_either, InSecond, none_is_not_some, some_same, append_none}
 use Rattle.ssa_core.proofs.Endless.{comes_through}
 use Rattle.ssa_core.proofs.Moves.{Moves, comes_one_moves, done_moves, phi_is_not_absent}
 use Rattle.ssa_core.proofs.Making.{same_blocks_refl, same_blocks_trans, makes_refl, makes_moves, makes_trans, makes_through, calls_refl, calls_trans}
 use Rattle.ssa_core.proofs.Standing.{advances_refl}
-use Rattle.ssa_core.proofs.Filling.{fill_grows, fill_moves, fill_full, fill_kept}
+use Rattle.ssa_core.proofs.Filling.{fill_grows, fill_full, fill_kept}
 
 -- ---- entries as lists grow
 

@@ -1,21 +1,21 @@
 -- A new value at the start of a block, or for a block that no walk comes to.
-use Rattle.std.proofs.Common.{◌≡◌, ℕ, zero, suc, ◌+◌, ◌<◌, ◌≤◌, ◌⊎◌, inl, inr, Bool, true, false, List, [], ◌∷◌, ◌++◌, length, Option, Some, None, refl, sym, ap, ◌∙◌, subst, arith}
+use Rattle.std.proofs.Common.{◌≡◌, ℕ, ◌+◌, ◌<◌, ◌≤◌, ◌⊎◌, inl, inr, Bool, true, false, List, [], ◌∷◌, ◌++◌, length, Option, Some, None, refl, sym, ap, ◌∙◌, subst, arith}
 use Rattle.std.proofs.lemmas.List.{length-append}
 use Rattle.std.proofs.lemmas.Bool.{cases_eq}
 use Rattle.std.proofs.lemmas.Option.{slice_get_within}
 use Rattle.std.specs.List.{slice_get}
 use Rattle.ssa_core.specs.declared.places.Place.{Place}
 use Rattle.ssa_core.specs.Places.{place, found, Puts}
-use Rattle.ssa_core.specs.Shapes.{Shape, Mode, ValueKind, absent, gone, unknown, phi, IsThere, SameBlocks, SamePlace, SameValue, Stands}
-use Rattle.ssa_core.specs.Gives.{View, Full, at_start, Chain}
+use Rattle.ssa_core.specs.Shapes.{Shape, Mode, ValueKind, absent, gone, unknown, phi, IsThere, Stands}
+use Rattle.ssa_core.specs.Gives.{at_start, Chain}
 use Rattle.ssa_core.specs.Known.{Known, last_write, later_of, sealed_in, view}
-use Rattle.ssa_core.specs.Back.{CanPass, IsFound, was_written, was_made, there, ComesToOne, IsLost}
-use Rattle.ssa_core.specs.Building.{CanGive, Stage, filled, waits, MadeWell, IsKept, IsNoted, by_made, by_passed, by_lost, IsNewPhi, IsNeeded, unsealed, joins, starts, IsNew, IsFresh, not_there, is_unknown, is_made, Makes, SameCalls}
+use Rattle.ssa_core.specs.Back.{CanPass, IsFound, was_written, was_made, there, IsLost}
+use Rattle.ssa_core.specs.Building.{CanGive, Stage, filled, waits, MadeWell, IsKept, IsNoted, by_made, by_passed, by_lost, IsNeeded, unsealed, joins, starts, IsNew, IsFresh, not_there, is_unknown, is_made, Makes}
 use Rattle.ssa_core.specs.Steps.{Adds, Advances, IsStanding, IsFit, fit_start, fit_phi, IsOpen, AreOpen, known_value, free_places}
-use Rattle.ssa_core.proofs.Among.{found_kept, found_new, found_before, found_at_index, written_at, get_front, get_last, get_pushed, one_item, none_is_not_some, some_same}
+use Rattle.ssa_core.proofs.Among.{found_kept, found_new, found_before, found_at_index, written_at, get_last, get_pushed, one_item, none_is_not_some, some_same}
 use Rattle.ssa_core.proofs.Keeps.{chain_extends}
-use Rattle.ssa_core.proofs.Moves.{Moves, moves_from, moves_extends, grows_by, kept_from, kept_unmade, made_moves, stage_moves, phi_is_not_absent, unknown_is_not_absent, phi_is_not_unknown}
-use Rattle.ssa_core.proofs.Making.{adds_by, adds_refl, makes_none, free_made, calls_refl}
+use Rattle.ssa_core.proofs.Moves.{Moves, moves_from, moves_extends, grows_by, kept_from, kept_unmade, made_moves, stage_moves, phi_is_not_unknown}
+use Rattle.ssa_core.proofs.Making.{adds_by, makes_none, free_made, calls_refl}
 
 later_none : {X : Type 0} (a b : Option X) → later_of a b ≡ None → (a ≡ None) × (b ≡ None)
 later_none None None e = (refl, refl)

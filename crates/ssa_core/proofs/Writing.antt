@@ -1,19 +1,17 @@
 -- One write more, in a block that is no predecessor of a block, or of a variable that was never read.
-use Rattle.std.proofs.Common.{◌≡◌, ℕ, zero, suc, ◌+◌, ◌<◌, ◌≤◌, ◌==◌, ◌&&◌, ◌⊎◌, inl, inr, Bool, true, false, cond, List, [], ◌∷◌, ◌++◌, length, take, Option, Some, None, refl, sym, ap, ◌∙◌, subst, arith}
+use Rattle.std.proofs.Common.{◌≡◌, ℕ, zero, suc, ◌==◌, ◌&&◌, ◌⊎◌, inl, inr, true, false, cond, [], ◌∷◌, ◌++◌, length, take, Option, Some, None, refl, sym, ap, ◌∙◌, subst, arith}
 use Rattle.std.proofs.lemmas.Bool.{cases_eq}
 use Rattle.std.proofs.lemmas.Bool.Decides.{nat_tests}
 use Rattle.std.proofs.lemmas.List.{length-append, take-append-le}
 use Rattle.std.specs.List.{slice_get}
 use Rattle.ssa_core.specs.declared.places.Place.{Place}
 use Rattle.ssa_core.specs.declared.notes.Write.{Write}
-use Rattle.ssa_core.specs.declared.notes.Read.{Read}
-use Rattle.ssa_core.specs.Places.{place, found}
-use Rattle.ssa_core.specs.Shapes.{Shape, Mode, ValueKind, absent, unknown, phi, IsThere}
-use Rattle.ssa_core.specs.Gives.{View, Gives, written, entered, passed, endless, Chain, no_step, step, IsGivenAt, Full, at_start, joined, replaced}
-use Rattle.ssa_core.specs.Known.{Known, last_write, later_of, sealed_in, view}
-use Rattle.ssa_core.specs.Back.{Back, stay, back, IsLost, IsPassed}
-use Rattle.ssa_core.specs.Building.{CanGive, Stage, filled, waits, MadeWell, IsKept, IsDone, WasRead, IsNoted, by_made, by_passed, by_lost, ReadWell, IsSettled, IsBefore}
-use Rattle.ssa_core.proofs.Among.{get_pushed, found_at_index, none_is_not_some}
+use Rattle.ssa_core.specs.Shapes.{Shape, Mode, IsThere}
+use Rattle.ssa_core.specs.Gives.{Gives, written, entered, passed, endless, Chain, no_step, step, Full, at_start, joined, replaced}
+use Rattle.ssa_core.specs.Known.{Known, last_write, later_of, view}
+use Rattle.ssa_core.specs.Back.{Back, stay, back}
+use Rattle.ssa_core.specs.Building.{CanGive, Stage, filled, waits, WasRead, IsNoted, by_made, by_passed, by_lost, IsSettled, IsBefore}
+use Rattle.ssa_core.proofs.Among.{get_pushed}
 use Rattle.ssa_core.proofs.Lookups.{last_write_push, of_write}
 
 module _ {V : Type 0} (k : Known V) (s : Shape V) (w : Write V) where

@@ -1,7 +1,7 @@
 -- Looking back from a block: the nearest block whose value a variable has at the block's end, and paths without writes.
-use Rattle.std.specs.Prelude.{◌≡◌, ℕ, zero, suc, ◌<◌, true, List, [], ◌∷◌, Option, Some, None}
+use Rattle.std.specs.Prelude.{◌≡◌, ℕ, zero, suc, ◌<◌, true, List, [], ◌∷◌, Some, None}
 use Rattle.std.specs.List.{slice_get}
-use Rattle.ssa_core.specs.Shapes.{Shape, Mode, unknown, IsThere}
+use Rattle.ssa_core.specs.Shapes.{Mode, unknown, IsThere}
 use Rattle.ssa_core.specs.Gives.{View, Chain, Gives}
 
 module _ {V : Type 0} (k : View V) where

@@ -1,11 +1,11 @@
 -- What holds of the builder and its target, between calls and within a call, and what a call changes.
-use Rattle.std.specs.Prelude.{◌≡◌, ℕ, ◌<◌, ◌≤◌, ◌⊎◌, Bool, true, false, List, [], ◌∷◌, ◌++◌, length, take, Option, Some, None}
+use Rattle.std.specs.Prelude.{◌≡◌, ℕ, ◌<◌, ◌≤◌, ◌⊎◌, true, false, List, [], ◌∷◌, ◌++◌, length, take, Some}
 use Rattle.std.specs.List.{slice_get}
 use Rattle.ssa_core.specs.declared.places.Place.{Place}
 use Rattle.ssa_core.specs.declared.notes.Write.{Write}
 use Rattle.ssa_core.specs.declared.notes.Read.{Read}
-use Rattle.ssa_core.specs.Places.{place, found}
-use Rattle.ssa_core.specs.Shapes.{Shape, Mode, ValueKind, absent, gone, unknown, phi, other, IsThere, IsPhi, SameBlocks, SamePlace, SameValue}
+use Rattle.ssa_core.specs.Places.{found}
+use Rattle.ssa_core.specs.Shapes.{Shape, Mode, absent, unknown, phi, IsThere, SameBlocks, SamePlace}
 use Rattle.ssa_core.specs.Gives.{View, Gives, Full}
 use Rattle.ssa_core.specs.Back.{IsPassed, IsLost, ComesToOne}
 use Rattle.ssa_core.specs.Known.{Known, last_write, sealed_in, view}

@@ -1,11 +1,11 @@
 -- What a caller may rest on: what the reads mean, what may be done to the target between calls.
-use Rattle.std.specs.Prelude.{◌≡◌, ℕ, ◌<◌, ◌≤◌, ◌⊎◌, true, List, [], ◌∷◌, length, take, Option, Some, None}
+use Rattle.std.specs.Prelude.{◌≡◌, ℕ, ◌≤◌, ◌⊎◌, true, List, [], length, take, Some}
 use Rattle.std.specs.List.{slice_get}
 use Rattle.ssa_core.specs.declared.places.Place.{Place}
 use Rattle.ssa_core.specs.declared.notes.Write.{Write}
 use Rattle.ssa_core.specs.declared.notes.Read.{Read}
 use Rattle.ssa_core.specs.Places.{found}
-use Rattle.ssa_core.specs.Shapes.{Shape, Mode, absent, phi, IsThere, SamePlace, SameValue, HasOnly, IsReplaced}
+use Rattle.ssa_core.specs.Shapes.{Shape, Mode, absent, phi, IsThere, SameValue, HasOnly, IsReplaced}
 use Rattle.ssa_core.specs.Walks.{Walk, end, IsWalk, Visits, along, last, last_with}
 use Rattle.ssa_core.specs.Known.{Known, last_write, sealed_in, nothing_known}
 use Rattle.ssa_core.specs.Building.{IsSettled, IsAmong}

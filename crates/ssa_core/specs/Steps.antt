@@ -1,10 +1,10 @@
 -- What holds within a call of the builder: what its parts are given, and what they give.
-use Rattle.std.specs.Prelude.{◌≡◌, ℕ, zero, suc, ◌+◌, ◌<◌, ◌≤◌, ◌⊎◌, Bool, true, false, List, [], ◌∷◌, ◌++◌, length, Option, Some, None}
+use Rattle.std.specs.Prelude.{◌≡◌, ℕ, zero, suc, ◌+◌, ◌<◌, ◌≤◌, ◌⊎◌, true, List, [], length, Option, Some, None}
 use Rattle.std.specs.List.{slice_get}
 use Rattle.ssa_core.specs.declared.places.Place.{Place}
-use Rattle.ssa_core.specs.Places.{place, found}
-use Rattle.ssa_core.specs.Shapes.{Shape, Mode, ValueKind, absent, unknown, phi, IsThere, SameBlocks, SamePlace, SameValue, Stands}
-use Rattle.ssa_core.specs.Gives.{View, Full}
+use Rattle.ssa_core.specs.Places.{found}
+use Rattle.ssa_core.specs.Shapes.{Shape, Mode, absent, unknown, phi, IsThere, SameBlocks, SamePlace, SameValue, Stands}
+use Rattle.ssa_core.specs.Gives.{View}
 use Rattle.ssa_core.specs.Back.{Back, CanPass, IsPassed, IsFound, IsGiven, ComesToOne}
 use Rattle.ssa_core.specs.Known.{Known, last_write, later_of, sealed_in, view}
 use Rattle.ssa_core.specs.Building.{IsKept, IsDone, SameCalls}

@@ -1,6 +1,5 @@
 use Rattle.std.proofs.Common.{◌≡◌, take}
 use Rattle.ssa_core.specs.Steps.{IsFilled}
-use Rattle.ssa_core.proofs.Making.{free_made}
 use Rattle.ssa_core.proofs.work.append_all.Given as goal
 
 abbrev pub invariant-loop-operand : goal.invariant-loop-operand

@@ -1,4 +1,4 @@
-use Rattle.std.proofs.Common.{false, sym, ap, ◌∙◌, subst}
+use Rattle.std.proofs.Common.{false, sym, ap, ◌∙◌}
 use Rattle.ssa_core.specs.Known.{sealed_in}
 use Rattle.ssa_core.specs.Places.{found}
 use Rattle.ssa_core.specs.Building.{IsWaiting}

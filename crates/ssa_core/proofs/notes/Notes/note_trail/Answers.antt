@@ -1,4 +1,4 @@
-use Rattle.std.proofs.Common.{refl, sym, ◌∙◌, ap, subst, arith}
+use Rattle.std.proofs.Common.{refl, ◌∙◌, ap, subst, arith}
 use Rattle.std.proofs.lemmas.List.{take_more}
 use Rattle.ssa_core.specs.Steps.{IsTrailNoted}
 use Rattle.ssa_core.specs.Known.{Known}

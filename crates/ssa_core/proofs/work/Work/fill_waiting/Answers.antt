@@ -1,10 +1,10 @@
-use Rattle.std.proofs.Common.{◌≡◌, ℕ, ◌<◌, List, Some, length, refl, sym, ap, ◌∙◌, subst}
+use Rattle.std.proofs.Common.{◌≡◌, ℕ, ◌<◌, List, length, refl, sym, ap, ◌∙◌, subst}
 use Rattle.std.specs.List.{slice_get}
 use Rattle.std.proofs.lemmas.Option.{slice_get_within}
 use Rattle.ssa_core.specs.Building.{Makes}
 use Rattle.ssa_core.specs.Steps.{AreOpen, AreReached, Settles}
 use Rattle.ssa_core.proofs.Standing.{none_open}
-use Rattle.ssa_core.proofs.Settling.{waiting_kept, waiting_calls, waiting_makes, waiting_none, waiting_here, waiting_others, waiting_settles, absent_makes, absent_none, absent_here, absent_settles}
+use Rattle.ssa_core.proofs.Settling.{waiting_makes, waiting_none, waiting_here, waiting_others, waiting_settles, absent_makes, absent_none, absent_here, absent_settles}
 use Rattle.ssa_core.proofs.work.Work.fill_waiting.Goals as goal
 
 pub settle-requires-clause-pending : goal.settle-requires-clause-pending

@@ -1,5 +1,5 @@
-use Rattle.std.proofs.Common.{◌≡◌, ◌∷◌, [], length, sym, ap, ◌∙◌, subst, arith}
-use Rattle.ssa_core.specs.Known.{Known, view}
+use Rattle.std.proofs.Common.{◌≡◌, ◌∷◌, [], length, ap, subst, arith}
+use Rattle.ssa_core.specs.Known.{Known}
 use Rattle.ssa_core.specs.Steps.{IsTrailNoted}
 use Rattle.ssa_core.proofs.Standing.{none_open}
 use Rattle.ssa_core.proofs.Finding.{long_endless, lose_read, lose_through, noted_kept, noted_ends, stand_advances, stand_makes, stand_read, stand_open}

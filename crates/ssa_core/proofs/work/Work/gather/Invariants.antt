@@ -2,7 +2,6 @@ use Rattle.std.proofs.Common.{◌≡◌, length}
 use Rattle.ssa_core.specs.Known.{view}
 use Rattle.ssa_core.specs.Building.{Makes}
 use Rattle.ssa_core.specs.Steps.{Adds, Advances, AreGiven, AreOpen}
-use Rattle.ssa_core.proofs.Settling.{Settling}
 use Rattle.ssa_core.proofs.work.Work.gather.Given as goal
 
 abbrev pub invariant-loop-index : goal.invariant-loop-index

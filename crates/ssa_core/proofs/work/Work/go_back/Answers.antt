@@ -1,6 +1,5 @@
-use Rattle.std.proofs.Common.{◌≤◌, length, arith}
 use Rattle.ssa_core.specs.Known.{view}
-use Rattle.ssa_core.proofs.Finding.{going_start, going_on, went_back}
+use Rattle.ssa_core.proofs.Finding.{going_start, going_on}
 use Rattle.ssa_core.proofs.work.Work.go_back.Goals as goal
 
 pub loop-self-init : goal.loop-self-init

@@ -1,4 +1,4 @@
-use Rattle.std.proofs.Common.{◌≡◌, [], refl, sym, ◌∙◌, ap, subst}
+use Rattle.std.proofs.Common.{◌≡◌, [], sym, ◌∙◌, ap, subst}
 use Rattle.ssa_core.specs.Places.{found, Puts}
 use Rattle.ssa_core.proofs.Filling.{decide_by}
 use Rattle.ssa_core.proofs.Making.{makes_refl}

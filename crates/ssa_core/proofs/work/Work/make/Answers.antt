@@ -1,8 +1,8 @@
-use Rattle.std.proofs.Common.{sym, ◌∙◌, ap, ◌++◌, ◌∷◌, []}
+use Rattle.std.proofs.Common.{◌∙◌, ap, ◌++◌, ◌∷◌, []}
 use Rattle.ssa_core.specs.Places.{place}
 use Rattle.ssa_core.specs.Known.{sealed_in}
 use Rattle.ssa_core.proofs.Filling.{decide_by}
-use Rattle.ssa_core.proofs.Standing.{make_advances, make_makes, make_adds, make_standing, make_open}
+use Rattle.ssa_core.proofs.Standing.{make_advances, make_makes, make_standing, make_open}
 use Rattle.ssa_core.proofs.work.Work.make.Goals as goal
 
 pub returns-clause-advances : goal.returns-clause-advances

@@ -1,4 +1,4 @@
-use Rattle.std.proofs.Common.{◌≡◌, ◌≤◌, ◌∷◌, [], ℕ, List, length, refl, sym, ap, ◌∙◌, subst}
+use Rattle.std.proofs.Common.{◌≡◌, ◌≤◌, ◌∷◌, [], ℕ, List, length, sym, ap, ◌∙◌, subst}
 use Rattle.ssa_core.specs.Building.{Makes}
 use Rattle.ssa_core.specs.Steps.{AreOpen, AreReached, Settles}
 use Rattle.ssa_core.proofs.Making.{calls_trans}

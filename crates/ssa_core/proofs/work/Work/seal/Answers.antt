@@ -1,4 +1,4 @@
-use Rattle.std.proofs.Common.{◌≡◌, get_or, refl, sym, ap, ◌∙◌, subst}
+use Rattle.std.proofs.Common.{◌≡◌, get_or, refl, ap, ◌∙◌, subst}
 use Rattle.std.proofs.lemmas.Option.{slice_get-get_or}
 use Rattle.ssa_core.specs.Known.{Known, sealed_in, indices_in}
 use Rattle.ssa_core.proofs.Sealing.{stays_sealed, sealing_start, waiting_open, sealing_next, seal_makes, seal_writes, seal_reads, seal_settled}

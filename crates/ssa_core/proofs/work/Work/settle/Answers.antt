@@ -1,7 +1,5 @@
-use Rattle.std.proofs.Common.{◌≡◌, Some, refl, sym, ap, subst, ◌∙◌, arith, rules}
+use Rattle.std.proofs.Common.{refl, sym, ap, ◌∙◌, rules}
 use Rattle.std.specs.List.{slice_get}
-use Rattle.ssa_core.specs.Places.{found}
-use Rattle.ssa_core.specs.Steps.{IsOpen}
 use Rattle.ssa_core.proofs.Settling.{settle_start, next_made, next_open, settle_next, settle_end, settle_bound}
 use Rattle.ssa_core.proofs.work.Work.settle.Goals as goal
 

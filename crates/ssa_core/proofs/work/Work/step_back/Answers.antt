@@ -1,4 +1,4 @@
-use Rattle.std.proofs.Common.{◌≡◌, true, None, rules, ap, ◌∙◌, sym}
+use Rattle.std.proofs.Common.{◌≡◌, true, None, rules, ◌∙◌, sym}
 use Rattle.ssa_core.specs.Known.{last_write, sealed_in, view}
 use Rattle.ssa_core.proofs.Finding.{steps_back}
 use Rattle.ssa_core.proofs.work.Work.step_back.Goals as goal
