@@ -1,0 +1,11 @@
+pub mod Back
+pub mod Building
+pub mod Gives
+pub mod Known
+pub mod Kept
+pub mod Laws
+pub mod Places
+pub mod Reads
+pub mod Shapes
+pub mod Steps
+pub mod Walks

@@ -1,0 +1,4 @@
+pub mod Edges
+pub mod Flows
+pub mod ListShape
+pub mod Seen

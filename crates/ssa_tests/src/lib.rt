@@ -1,0 +1,11 @@
+// Tests of SSA construction, over a small target of lists.
+#![tactic(auto)]
+
+mod flow;
+mod flows;
+mod list_target;
+mod lists;
+mod only;
+mod walk;
+
+pub use lists::ListTarget;
