@@ -17,3 +17,7 @@ pub mod ShapesParents
 pub mod ShapesNames
 pub mod ShapesIdentifiers
 pub mod ShapesNodes
+pub mod ProgressBase
+pub mod ProgressKids
+pub mod ProgressForms
+pub mod ProgressKinds
