@@ -21,3 +21,5 @@ pub mod ProgressBase
 pub mod ProgressKids
 pub mod ProgressForms
 pub mod ProgressKinds
+pub mod ProgressExpressions
+pub mod ProgressOperators

@@ -16,11 +16,11 @@ use Rattle.c_typing.specs.Shapes.{Category}
 use Rattle.c_typing.specs.Meant.{has_form, is_callable}
 
 -- a string initializes an array only as an initializer
-abbrev pub may_fill : SynKind → Meaning → Bool
-may_fill kind.InitDecl fills_array = true
-may_fill kind.Braces fills_array = true
-may_fill outer fills_array = false
-may_fill outer m = true
+abbrev pub may_fill : Meaning → SynKind → Bool
+may_fill fills_array kind.InitDecl = true
+may_fill fills_array kind.Braces = true
+may_fill fills_array outer = false
+may_fill m outer = true
 
 abbrev pub holds_initial : SynKind → Bool
 holds_initial kind.InitDecl = true
@@ -29,7 +29,7 @@ holds_initial outer = false
 
 -- a node of this kind and category, below one of the kind `outer`, means this
 abbrev pub fits : SynKind → SynKind → Category → Judgement → Bool
-fits outer own c (means m) = has_form c own (not (is_declarator outer)) m && may_fill outer m
+fits outer own c (means m) = has_form c own (not (is_declarator outer)) m && may_fill m outer
 fits outer own c j = false
 
 abbrev pub is_some_expression : Category → Bool
@@ -53,7 +53,7 @@ pub typed : (outer own : SynKind) (c : Category) (j : Judgement) → is_some_exp
 typed outer own (category.expression l) (means (expresses x h)) e i f = record { typing = x; is = refl; callable = (split f).0 }
 typed outer own (category.expression l) (means fills_array) e i f = by outer i (split f).1
   where
-    by : (k : SynKind) → holds_initial k ≡ false → may_fill k fills_array ≡ true → HasTyping (means fills_array)
+    by : (k : SynKind) → holds_initial k ≡ false → may_fill fills_array k ≡ true → HasTyping (means fills_array)
     by kind.InitDecl i g = absurd (true≢false i)
     by kind.Braces i g = absurd (true≢false i)
     by _ i g = no g

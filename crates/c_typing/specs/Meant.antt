@@ -79,10 +79,10 @@ says_function (defines f) = true
 says_function m = false
 
 -- a string may initialize an array, where it is the initializer of a declarator or stands in braces
-abbrev pub says_expression : SynKind → Meaning → Bool
-says_expression k (expresses x h) = is_callable x.form x.type
-says_expression kind.Str fills_array = true
-says_expression k m = false
+abbrev pub says_expression : Meaning → SynKind → Bool
+says_expression (expresses x h) k = is_callable x.form x.type
+says_expression fills_array kind.Str = true
+says_expression m k = false
 
 -- the form of what a node means: by its category and its kind, and, of a declarator, by whether it is a whole one
 abbrev pub has_form : Category → SynKind → Bool → Meaning → Bool
@@ -106,7 +106,7 @@ has_form category.block k whole m = says_statement m
 has_form category.empty k whole m = says_statement m
 has_form category.statement k whole m = says_statement m
 has_form category.switch_label k whole m = says_label m
-has_form (category.expression level) k whole m = says_expression k m
+has_form (category.expression level) k whole m = says_expression m k
 has_form category.no_category k whole m = false
 
 -- ---- what is meant
