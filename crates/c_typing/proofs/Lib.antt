@@ -23,3 +23,4 @@ pub mod ProgressForms
 pub mod ProgressKinds
 pub mod ProgressExpressions
 pub mod ProgressOperators
+pub mod ProgressStatements
