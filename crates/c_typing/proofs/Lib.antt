@@ -24,3 +24,4 @@ pub mod ProgressKinds
 pub mod ProgressExpressions
 pub mod ProgressOperators
 pub mod ProgressStatements
+pub mod ProgressDeclarators
