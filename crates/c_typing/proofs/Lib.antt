@@ -25,3 +25,4 @@ pub mod ProgressExpressions
 pub mod ProgressOperators
 pub mod ProgressStatements
 pub mod ProgressDeclarators
+pub mod ProgressNames

@@ -110,6 +110,13 @@ module _ (outer own : SynKind) (c : Category) (part : is_part c ≡ true) where
 
 -- ---- specs
 
+-- a name among specs is a typedef name, and has a type
+pub record IsNamed (p : Places) (js : List Judgement) (node : Node) : Type 0 where
+  pub name : Name
+  pub denotes : denoted p.names node.id node.label.text ≡ Some name
+  pub is_type : is_typedef name.entity ≡ true
+  pub type : Has (type_of_name js name)
+
 module _ (outer own : SynKind) where
   pub specs_settle : (p : Places) (js : List Judgement) (node : Node) → AllThere (map (λ n. spec_meaning (judgement_at js n)) node.kids) → Settles (fits outer own category.specifiers) (specs p js node)
   unfolding specs
@@ -118,13 +125,6 @@ module _ (outer own : SynKind) where
       let types = all_there _ there in
       besides_settles (fits outer own category.specifiers) (bad_storage_class (place_of_specs p node) (filter is_storage words) node.id) _
       (λ none. given_settles (fits outer own category.specifiers) _ types.0 _ types.1 (verdict_settles (fits outer own category.specifiers) _ _ refl))
-
-  -- a name among specs is a typedef name, and has a type
-  pub record IsNamed (p : Places) (js : List Judgement) (node : Node) : Type 0 where
-    pub name : Name
-    pub denotes : denoted p.names node.id node.label.text ≡ Some name
-    pub is_type : is_typedef name.entity ≡ true
-    pub type : Has (type_of_name js name)
 
   pub word_settles : (p : Places) (js : List Judgement) (node : Node)
       → (is_storage_word node.label.text ≡ false → is_type_word node.label.text ≡ false → IsNamed p js node) → Settles (fits outer own (word_category node.label.text)) (spec_word p js node)

@@ -9,7 +9,7 @@ use Rattle.c_typing.specs.Places.{is_declarator}
 use Rattle.c_typing.specs.Judgements.{Meaning, itself, a_type, a_struct, members, enumerates, steps, declares, expresses, fills_array, initial, initialized, performs, labels, defines, Judgement, means, breaks_rules, waits, Typing, PlacedStep, typing_of, type_of, steps_of, code_of}
 use Rattle.c_typing.specs.Expressions.{word_of_enumerator}
 use Rattle.c_typing.specs.Declarators.{spec_meaning, members_of}
-use Rattle.c_typing.specs.Statements.{declarator_code, Item, a_label, a_statement}
+use Rattle.c_typing.specs.Statements.{item_at, declarator_code, Item, a_label, a_statement}
 use Rattle.c_typing.specs.Types.{Field}
 use Rattle.c_typing.specs.Shapes as category
 use Rattle.c_typing.specs.Shapes.{Category}
@@ -209,3 +209,48 @@ declared_by _ e = no e
 pub has_declared : (outer own : SynKind) (j : Judgement) → fits outer own category.init_declarator j ≡ true → Has (declarator_code j)
 has_declared outer own (means m) f = declared_by m (split f).0
 has_declared outer own _ f = no f
+
+-- ---- the items of a `switch`
+
+label_by : (m : Meaning) → has_form category.switch_label kind.Unit true m ≡ true → Has (item_at (means m ∷ []) 0)
+label_by (labels w) e = record { value = a_label w; is = refl }
+label_by _ e = no e
+
+performed_by : (m : Meaning) → has_form category.statement kind.Unit true m ≡ true → Has (item_at (means m ∷ []) 0)
+performed_by (performs ss) e = record { value = _; is = refl }
+performed_by _ e = no e
+
+abbrev pub is_item : Category → Bool
+is_item category.switch_label = true
+is_item category.block = true
+is_item category.empty = true
+is_item category.statement = true
+is_item c = false
+
+pub has_item : (outer own : SynKind) (c : Category) (j : Judgement) → is_item c ≡ true → fits outer own c j ≡ true → Has (item_at (j ∷ []) 0)
+has_item outer own category.switch_label (means m) e f = label_by m (split f).0
+has_item outer own category.block (means m) e f = performed_by m (split f).0
+has_item outer own category.empty (means m) e f = performed_by m (split f).0
+has_item outer own category.statement (means m) e f = performed_by m (split f).0
+has_item outer own category.switch_label _ e f = no f
+has_item outer own category.block _ e f = no f
+has_item outer own category.empty _ e f = no f
+has_item outer own category.statement _ e f = no f
+has_item outer own _ j e f = no e
+
+-- ---- a part of a declarator is no expression
+
+untyped_by : (w : Bool) (m : Meaning) → has_form category.declarator kind.Unit w m ≡ true → typing_of (means m) ≡ None
+untyped_by true (declares t) e = refl
+untyped_by false (steps ss) e = refl
+untyped_by true _ e = no e
+untyped_by false _ e = no e
+
+pub untyped : (outer own : SynKind) (c : Category) (j : Judgement) → is_part c ≡ true → fits outer own c j ≡ true → typing_of j ≡ None
+untyped outer own category.declarator (means m) e f = untyped_by (not (is_declarator outer)) m (split f).0
+untyped outer own category.abstract_declarator (means m) e f = untyped_by (not (is_declarator outer)) m (split f).0
+untyped outer own category.no_name (means m) e f = untyped_by (not (is_declarator outer)) m (split f).0
+untyped outer own category.declarator _ e f = no f
+untyped outer own category.abstract_declarator _ e f = no f
+untyped outer own category.no_name _ e f = no f
+untyped outer own _ j e f = no e
