@@ -26,3 +26,4 @@ pub mod ProgressOperators
 pub mod ProgressStatements
 pub mod ProgressDeclarators
 pub mod ProgressNames
+pub mod ProgressStep

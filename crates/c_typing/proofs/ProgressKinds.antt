@@ -391,3 +391,6 @@ initial _ e = no e
 pub of_braces : (text : List ℕ) (cs : List Category) → kids_fit kind.Braces text cs ≡ true → list_all is_initial cs ≡ true
 unfolding kids_fit
 of_braces text cs e = some is_initializer is_initial initial cs e
+
+pub apart : {p q : Bool} → p && q ≡ true → (p ≡ true) × (q ≡ true)
+apart {p = p} {q = q} e = split {p = p} {q = q} e
