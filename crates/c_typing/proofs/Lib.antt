@@ -27,3 +27,7 @@ pub mod ProgressStatements
 pub mod ProgressDeclarators
 pub mod ProgressNames
 pub mod ProgressStep
+pub mod ProgressOnExpressions
+pub mod ProgressOnStatements
+pub mod ProgressOnDeclarators
+pub mod ProgressKind

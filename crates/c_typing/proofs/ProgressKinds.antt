@@ -1,5 +1,5 @@
 -- The kids that a node of each kind has, by the table of shapes.
-use Rattle.std.proofs.Common.{◌≡◌, ℕ, zero, suc, Bool, true, false, ◌&&◌, ◌||◌, not, List, [], ◌∷◌, map, refl, sym, ap, ◌∙◌, true≢false}
+use Rattle.std.proofs.Common.{◌≡◌, ℕ, zero, suc, Bool, true, false, ◌&&◌, ◌||◌, not, List, [], ◌∷◌, map, refl, sym, ap, ◌∙◌, true≢false, ◌⊎◌, inl, inr}
 use Rattle.std.specs.Prelude.{get_or, if◌then◌else◌}
 use Rattle.std.specs.List.{list_all}
 use Rattle.c_syntax.specs.declared.kind.SynKind.{SynKind}
@@ -7,7 +7,8 @@ use Rattle.c_syntax.specs.declared.kind.SynKind.TheVariants as kind
 use Rattle.c_typing.specs.Shapes as category
 use Rattle.c_typing.specs.Shapes.{Category, no_category, is_within, is_right_operand, is_operand, is_increment, is_expression, is_optional_expression, is_first_clause, is_init_declarator, is_initializer, is_member, is_enumerator, is_parameter, are_specifiers, are_groups, one_or_more, is_statement, is_block_item, is_any_declarator, is_abstract, is_declarator, at_most_one, kids_fit, declarator_over, in_parentheses, is_in_parentheses, word_category, category_by}
 use Rattle.c_grammar.specs.Vocabulary.{is_type_word, is_storage_word}
-use Rattle.c_typing.proofs.ProgressForms.{is_some_expression, is_code, is_part, is_specifier, is_item, split}
+use Rattle.c_typing.proofs.ProgressForms.{is_some_expression, is_code, is_part, has_type, is_specifier, is_item, split}
+use Rattle.c_typing.specs.Places.{is_declarator as is_declarator_kind}
 use Rattle.c_typing.proofs.ShapesBase.{both}
 use Rattle.c_grammar.specs.Derivation.{Standing, at_first, behind_label, behind_statement, is_labelled}
 
@@ -394,3 +395,43 @@ of_braces text cs e = some is_initializer is_initial initial cs e
 
 pub apart : {p q : Bool} → p && q ≡ true → (p ≡ true) × (q ≡ true)
 apart {p = p} {q = q} e = split {p = p} {q = q} e
+
+pub parted : (c : Category) → is_in_parentheses c ≡ true → (is_some_expression c ≡ true) ⊎ (is_part c ≡ true)
+parted category.declarator e = inr refl
+parted category.abstract_declarator e = inr refl
+parted (category.expression l) e = inl refl
+parted c e = inl (within 16 c e)
+
+pub part_brackets : (c : Category) → is_part c ≡ true → is_part (in_parentheses (c ∷ [])) ≡ true
+part_brackets category.declarator e = refl
+part_brackets category.abstract_declarator e = refl
+part_brackets category.no_name e = refl
+part_brackets _ e = no e
+
+-- ---- classes of one category
+
+pub only_init_declarator : (c : Category) → is_init_declarator c ≡ true → c ≡ category.init_declarator
+only_init_declarator category.init_declarator e = refl
+only_init_declarator _ e = no e
+
+pub only_member : (c : Category) → is_member c ≡ true → c ≡ category.member
+only_member category.member e = refl
+only_member _ e = no e
+
+pub only_enumerator : (c : Category) → is_enumerator c ≡ true → c ≡ category.enumerator
+only_enumerator category.enumerator e = refl
+only_enumerator _ e = no e
+
+pub whole_has_type : (c : Category) → is_declarator c ≡ true → has_type kind.Member c ≡ true
+whole_has_type category.declarator e = refl
+whole_has_type _ e = no e
+
+pub parameter_has_type : (c : Category) → is_parameter c ≡ true → has_type kind.Takes c ≡ true
+parameter_has_type category.parameter e = refl
+parameter_has_type _ e = no e
+
+pub part_has_type : (k : SynKind) (c : Category) → not (is_declarator_kind k) ≡ true → is_part c ≡ true → has_type k c ≡ true
+part_has_type k category.declarator w e = w
+part_has_type k category.abstract_declarator w e = w
+part_has_type k category.no_name w e = w
+part_has_type k _ w e = no e

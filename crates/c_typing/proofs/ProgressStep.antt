@@ -36,11 +36,8 @@ pub record KidHas (cat : ℕ → Category) (p : Places) (js : List Judgement) (o
   pub below : List Category
   pub is : cat j ≡ category_by (kind_at p.nodes j) text below
 
--- what is known where a node is reached: of its kids, and of what else its meaning is made of
-pub record Ready (cat : ℕ → Category) (p : Places) (js : List Judgement) (n : ℕ) (outer : SynKind) (m : Node) : Type 0 where
-  pub kids : (i j : ℕ) → slice_get m.kids i ≡ Some j → KidHas cat p js m.label.kind j
-  pub numbered : (i j : ℕ) → slice_get m.kids i ≡ Some j → (node_at p.nodes j).id ≡ j
-  pub above : (parent_of p.nodes m.id).label.kind ≡ outer
+-- what is known, where a node is reached, of what its meaning is made of beside its kids
+pub record Special (cat : ℕ → Category) (p : Places) (js : List Judgement) (n : ℕ) (outer : SynKind) (m : Node) : Type 0 where
   pub specified : is_part (cat n) ≡ true → not (is_declarator outer) ≡ true → Has (type_at js (specs_of p.nodes (parent_of p.nodes m.id)).id)
   pub named : m.label.kind ≡ kind.Word → is_storage_word m.label.text ≡ false → is_type_word m.label.text ≡ false → IsNamed p js m
   pub known : m.label.kind ≡ kind.Var → (e : Name) → denoted p.names m.id m.label.text ≡ Some e → Known js e e.entity
@@ -50,6 +47,13 @@ pub record Ready (cat : ℕ → Category) (p : Places) (js : List Judgement) (n 
   pub returns : m.label.kind ≡ kind.Return → Has (type_at js (kid (function_around p m.id) 1))
   pub before : m.label.kind ≡ kind.Enumer → (i : ℕ) → index_in (parent_of p.nodes m.id).kids m.id ≡ suc i
       → Has (word_of_enumerator (judgement_at js (unwrap_or (slice_get (parent_of p.nodes m.id).kids i) 0)))
+
+-- and of its kids and its parent
+pub record Ready (cat : ℕ → Category) (p : Places) (js : List Judgement) (n : ℕ) (outer : SynKind) (m : Node) : Type 0 where
+  pub kids : (i j : ℕ) → slice_get m.kids i ≡ Some j → KidHas cat p js m.label.kind j
+  pub numbered : (i j : ℕ) → slice_get m.kids i ≡ Some j → (node_at p.nodes j).id ≡ j
+  pub above : (parent_of p.nodes m.id).label.kind ≡ outer
+  pub special : Special cat p js n outer m
 
 -- ---- lists of kids
 
@@ -76,11 +80,11 @@ rest_map : (cat : ℕ → Category) (ks : List ℕ) → map cat (drop 1 ks) ≡ 
 rest_map cat [] = refl
 rest_map cat (k ∷ ks) = refl
 
-rest_at : (ks : List ℕ) (i j : ℕ) → slice_get (drop 1 ks) i ≡ Some j → slice_get ks (suc i) ≡ Some j
+pub rest_at : (ks : List ℕ) (i j : ℕ) → slice_get (drop 1 ks) i ≡ Some j → slice_get ks (suc i) ≡ Some j
 rest_at [] i j e = absurd (cc e)
 rest_at (k ∷ ks) i j e = e
 
-has_at : (ks : List ℕ) (i : ℕ) → is_some (slice_get ks i) ≡ true → slice_get ks i ≡ Some (unwrap_or (slice_get ks i) 0)
+pub has_at : (ks : List ℕ) (i : ℕ) → is_some (slice_get ks i) ≡ true → slice_get ks i ≡ Some (unwrap_or (slice_get ks i) 0)
 has_at ks i e = by (slice_get ks i) e
   where
     by : (o : Option ℕ) → is_some o ≡ true → o ≡ Some (unwrap_or o 0)
@@ -88,7 +92,7 @@ has_at ks i e = by (slice_get ks i) e
     by None e = no e
 
 -- all kids pass: so does the one of this index
-at_all : (cat : ℕ → Category) (test : Category → Bool) (ks : List ℕ) (i j : ℕ) → list_all test (map cat ks) ≡ true → slice_get ks i ≡ Some j → test (cat j) ≡ true
+pub at_all : (cat : ℕ → Category) (test : Category → Bool) (ks : List ℕ) (i j : ℕ) → list_all test (map cat ks) ≡ true → slice_get ks i ≡ Some j → test (cat j) ≡ true
 at_all cat test [] i j e at = absurd (cc at)
 at_all cat test (k ∷ ks) zero j e at = same at
   where
@@ -102,37 +106,42 @@ module _ (cat : ℕ → Category) (p : Places) (js : List Judgement) (n : ℕ) (
   below : List Category
   below = map cat m.kids
 
-  kid_has : (i j : ℕ) → slice_get m.kids i ≡ Some j → KidHas cat p js k j
+  pub kid_has : (i j : ℕ) → slice_get m.kids i ≡ Some j → KidHas cat p js k j
   kid_has i j at = subst (λ o. KidHas cat p js o j) same (r.kids i j at)
 
-  at_kid : (P : ℕ → Type 0) (test : Category → Bool) (i : ℕ) → test no_category ≡ false → ((j : ℕ) → test (cat j) ≡ true → KidHas cat p js k j → P j)
+  pub at_kid : (P : ℕ → Type 0) (test : Category → Bool) (i : ℕ) → test no_category ≡ false → ((j : ℕ) → test (cat j) ≡ true → KidHas cat p js k j → P j)
       → test (get_or (map cat m.kids) i no_category) ≡ true → P (kid m i)
   at_kid P test i e f h =
       let a = at_index cat m.kids i test e h in
       subst (λ j. P j) (sym (ap (λ o. unwrap_or o 0) a.is)) (f a.place a.passes (kid_has i a.place a.is))
 
+  pub kid_numbered : (test : Category → Bool) (i : ℕ) → test no_category ≡ false → test (get_or (map cat m.kids) i no_category) ≡ true → (node_at p.nodes (kid m i)).id ≡ kid m i
+  kid_numbered test i e h =
+      let a = at_index cat m.kids i test e h in
+      subst (λ j. (node_at p.nodes j).id ≡ j) (sym (ap (λ o. unwrap_or o 0) a.is)) (r.numbered i a.place a.is)
+
   -- the typing of a kid that is an expression
-  operand : holds_initial k ≡ false → (i : ℕ) → Operand (map cat m.kids) i → HasTyping (judgement_at js (kid m i))
+  pub operand : holds_initial k ≡ false → (i : ℕ) → Operand (map cat m.kids) i → HasTyping (judgement_at js (kid m i))
   operand h i e = at_kid (λ j. HasTyping (judgement_at js j)) is_some_expression i refl (λ j t a. typed k (kind_at p.nodes j) (cat j) (judgement_at js j) t h a.form) e
 
-  value : holds_initial k ≡ false → (i : ℕ) → Operand (map cat m.kids) i → Has (typing_at js (kid m i))
+  pub value : holds_initial k ≡ false → (i : ℕ) → Operand (map cat m.kids) i → Has (typing_at js (kid m i))
   value h i e = let x = operand h i e in record { value = x.typing; is = x.is }
 
-  code : (i : ℕ) → Code (map cat m.kids) i → Has (code_at js (kid m i))
+  pub code : (i : ℕ) → Code (map cat m.kids) i → Has (code_at js (kid m i))
   code i e = at_kid (λ j. Has (code_at js j)) is_code i refl (λ j t a. performed k (kind_at p.nodes j) (cat j) (judgement_at js j) t a.form) e
 
-  type : (i : ℕ) → has_type k no_category ≡ false → has_type k (get_or (map cat m.kids) i no_category) ≡ true → Has (type_at js (kid m i))
+  pub type : (i : ℕ) → has_type k no_category ≡ false → has_type k (get_or (map cat m.kids) i no_category) ≡ true → Has (type_at js (kid m i))
   type i e h = at_kid (λ j. Has (type_at js j)) (λ c. has_type k c) i e (λ j t a. has_its_type k (kind_at p.nodes j) (cat j) (judgement_at js j) t a.form) h
 
-  inner_steps : not (is_declarator k) ≡ false → is_part (get_or (map cat m.kids) 0 no_category) ≡ true → Has (steps_at js (kid m 0))
+  pub inner_steps : not (is_declarator k) ≡ false → is_part (get_or (map cat m.kids) 0 no_category) ≡ true → Has (steps_at js (kid m 0))
   inner_steps w e = at_kid (λ j. Has (steps_at js j)) is_part 0 refl (λ j t a. has_steps k (kind_at p.nodes j) (cat j) (judgement_at js j) t w a.form) e
 
   -- what all kids, or all but the first, mean
-  all_of_them : {A : Type 0} (test : Category → Bool) (f : ℕ → Option A) → ((j : ℕ) → test (cat j) ≡ true → KidHas cat p js k j → Has (f j))
+  pub all_of_them : {A : Type 0} (test : Category → Bool) (f : ℕ → Option A) → ((j : ℕ) → test (cat j) ≡ true → KidHas cat p js k j → Has (f j))
       → list_all test (map cat m.kids) ≡ true → AllThere (map f m.kids)
   all_of_them {A = A} test f h e = all_kids cat p js k test f h m.kids kid_has e
 
-  others : {A : Type 0} (test : Category → Bool) (f : ℕ → Option A) → ((j : ℕ) → test (cat j) ≡ true → KidHas cat p js k j → Has (f j))
+  pub others : {A : Type 0} (test : Category → Bool) (f : ℕ → Option A) → ((j : ℕ) → test (cat j) ≡ true → KidHas cat p js k j → Has (f j))
       → list_all test (rest (map cat m.kids)) ≡ true → AllThere (map f (other_kids m))
   others {A = A} test f h e =
       all_kids cat p js k test f h (drop 1 m.kids) (λ i j at. kid_has (suc i) j (rest_at m.kids i j at)) (ap (λ cs. list_all test cs) (rest_map cat m.kids) ∙ e)
