@@ -31,3 +31,4 @@ pub mod ProgressOnExpressions
 pub mod ProgressOnStatements
 pub mod ProgressOnDeclarators
 pub mod ProgressKind
+pub mod ProgressAll
