@@ -32,3 +32,4 @@ pub mod ProgressOnStatements
 pub mod ProgressOnDeclarators
 pub mod ProgressKind
 pub mod ProgressAll
+pub mod ProgressPlaces
