@@ -33,3 +33,4 @@ pub mod ProgressOnDeclarators
 pub mod ProgressKind
 pub mod ProgressAll
 pub mod ProgressPlaces
+pub mod ProgressOwners

@@ -57,12 +57,12 @@ pub record Ready (cat : ℕ → Category) (p : Places) (js : List Judgement) (n 
 
 -- ---- lists of kids
 
-record At (cat : ℕ → Category) (ks : List ℕ) (i : ℕ) (test : Category → Bool) : Type 0 where
-  place : ℕ
-  is : slice_get ks i ≡ Some place
-  passes : test (cat place) ≡ true
+pub record At (cat : ℕ → Category) (ks : List ℕ) (i : ℕ) (test : Category → Bool) : Type 0 where
+  pub place : ℕ
+  pub is : slice_get ks i ≡ Some place
+  pub passes : test (cat place) ≡ true
 
-at_index : (cat : ℕ → Category) (ks : List ℕ) (i : ℕ) (test : Category → Bool) → test no_category ≡ false → test (get_or (map cat ks) i no_category) ≡ true → At cat ks i test
+pub at_index : (cat : ℕ → Category) (ks : List ℕ) (i : ℕ) (test : Category → Bool) → test no_category ≡ false → test (get_or (map cat ks) i no_category) ≡ true → At cat ks i test
 at_index cat [] i test e f = absurd (true≢false (sym f ∙ e))
 at_index cat (k ∷ ks) zero test e f = record { place = k; is = refl; passes = f }
 at_index cat (k ∷ ks) (suc i) test e f = let a = at_index cat ks i test e f in record { place = a.place; is = a.is; passes = a.passes }
