@@ -34,3 +34,4 @@ pub mod ProgressKind
 pub mod ProgressAll
 pub mod ProgressPlaces
 pub mod ProgressOwners
+pub mod ProgressBefore

@@ -59,11 +59,11 @@ part_stands category.no_name kind.ArrayOf e f g = no g
 part_stands category.no_name _ e f g = no f
 part_stands _ k e f g = no e
 
-abbrev is_specs : Category → Bool
+abbrev pub is_specs : Category → Bool
 is_specs category.specifiers = true
 is_specs c = false
 
-only_specs : (c : Category) → is_specs c ≡ true → c ≡ category.specifiers
+pub only_specs : (c : Category) → is_specs c ≡ true → c ≡ category.specifiers
 only_specs category.specifiers e = refl
 only_specs _ e = no e
 
@@ -129,7 +129,7 @@ module _ (cat : ℕ → Category) (ns : List Node) (l : AreLinked cat ns) where
       later zero {j = j} at first passes = let equal : n ≡ j = some_same (sym at ∙ first) in absurd (true≢false (sym passes ∙ (ap (λ k. test (cat k)) (sym equal) ∙ other)))
       later (suc i) at first passes = omega arith
 
-  parent_is : (n : ℕ) (m : Node) → slice_get ns n ≡ Some m → (q : Linked ns n m) → parent_of ns m.id ≡ q.parent
+  pub parent_is : (n : ℕ) (m : Node) → slice_get ns n ≡ Some m → (q : Linked ns n m) → parent_of ns m.id ≡ q.parent
   parent_is n m e q =
       ap (λ k. node_at ns (node_at ns k).parent) (l.shapes.tiled n m e).numbered
       ∙ (ap (λ (x : Node). node_at ns x.parent) (found_at ns n m e) ∙ found_at ns m.parent q.parent q.at)
