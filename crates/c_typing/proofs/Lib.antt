@@ -35,3 +35,4 @@ pub mod ProgressAll
 pub mod ProgressPlaces
 pub mod ProgressOwners
 pub mod ProgressBefore
+pub mod ProgressAround

@@ -435,3 +435,15 @@ part_has_type k category.declarator w e = w
 part_has_type k category.abstract_declarator w e = w
 part_has_type k category.no_name w e = w
 part_has_type k _ w e = no e
+
+abbrev pub is_declarator_only : Category → Bool
+is_declarator_only category.declarator = true
+is_declarator_only c = false
+
+abbrev pub is_unit_only : Category → Bool
+is_unit_only category.unit = true
+is_unit_only c = false
+
+pub only_declarator : (c : Category) → is_declarator_only c ≡ true → c ≡ category.declarator
+only_declarator category.declarator e = refl
+only_declarator _ e = no e

@@ -44,7 +44,7 @@ at_seam : (xs : List ℕ) (y : ℕ) (ys : List ℕ) → slice_get (xs ++ y ∷ y
 at_seam [] y ys = refl
 at_seam (x ∷ xs) y ys = at_seam xs y ys
 
-within : (ns : List Node) (n : ℕ) (m : Node) → slice_get ns n ≡ Some m → suc n ≤ length ns
+pub within : (ns : List Node) (n : ℕ) (m : Node) → slice_get ns n ≡ Some m → suc n ≤ length ns
 within [] n m e = absurd (cc e)
 within (x ∷ ns) zero m e = omega arith
 within (x ∷ ns) (suc n) m e = let l = within ns n m e in omega (arith, l)
