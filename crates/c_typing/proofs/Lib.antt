@@ -36,3 +36,4 @@ pub mod ProgressPlaces
 pub mod ProgressOwners
 pub mod ProgressBefore
 pub mod ProgressAround
+pub mod ProgressWhole
