@@ -37,3 +37,4 @@ pub mod ProgressOwners
 pub mod ProgressBefore
 pub mod ProgressAround
 pub mod ProgressWhole
+pub mod ProgressDeclared
