@@ -110,13 +110,6 @@ module _ (outer own : SynKind) (c : Category) (part : is_part c ≡ true) where
 
 -- ---- specs
 
--- a name among specs is a typedef name, and has a type
-pub record IsNamed (p : Places) (js : List Judgement) (node : Node) : Type 0 where
-  pub name : Name
-  pub denotes : denoted p.names node.id node.label.text ≡ Some name
-  pub is_type : is_typedef name.entity ≡ true
-  pub type : Has (type_of_name js name)
-
 module _ (outer own : SynKind) where
   pub specs_settle : (p : Places) (js : List Judgement) (node : Node) → AllThere (map (λ n. spec_meaning (judgement_at js n)) node.kids) → Settles (fits outer own category.specifiers) (specs p js node)
   unfolding specs
@@ -126,20 +119,23 @@ module _ (outer own : SynKind) where
       besides_settles (fits outer own category.specifiers) (bad_storage_class (place_of_specs p node) (filter is_storage words) node.id) _
       (λ none. given_settles (fits outer own category.specifiers) _ types.0 _ types.1 (verdict_settles (fits outer own category.specifiers) _ _ refl))
 
+  -- where a name among specs is a typedef name, it has a type
   pub word_settles : (p : Places) (js : List Judgement) (node : Node)
-      → (is_storage_word node.label.text ≡ false → is_type_word node.label.text ≡ false → IsNamed p js node) → Settles (fits outer own (word_category node.label.text)) (spec_word p js node)
+      → ((e : Name) → denoted p.names node.id node.label.text ≡ Some e → is_typedef e.entity ≡ true → Has (type_of_name js e)) → Settles (fits outer own (word_category node.label.text)) (spec_word p js node)
   unfolding spec_word typedef_type
-  word_settles p js node h = by (is_storage_word node.label.text) (is_type_word node.label.text) h
+  word_settles p js node h = by (is_storage_word node.label.text) (is_type_word node.label.text)
     where
-      by : (s t : Bool) → (s ≡ false → t ≡ false → IsNamed p js node)
-          → Settles (fits outer own (if s then category.storage_word else if t then category.type_specifier else category.typedef_name)) (if s || t then means itself else given (denoted p.names node.id node.label.text) (typedef_type js))
-      by true t h = settled (fits outer own category.storage_word) (means itself) refl
-      by false true h = settled (fits outer own category.type_specifier) (means itself) refl
-      by false false h =
-          let e = h refl refl in
-          given_settles (fits outer own category.typedef_name) _ e.name _ e.denotes (cases (fits outer own category.typedef_name) (is_typedef e.name.entity) _ _
-          (λ f. given_settles (fits outer own category.typedef_name) _ e.type.value _ e.type.is (settled (fits outer own category.typedef_name) (means (a_type e.type.value)) refl))
-          (λ f. absurd (true≢false (sym e.is_type ∙ f))))
+      named : (o : Option Name) → ((e : Name) → o ≡ Some e → is_typedef e.entity ≡ true → Has (type_of_name js e)) → Settles (fits outer own category.typedef_name) (typedef_type js node o)
+      named None h = broken (fits outer own category.typedef_name) (rule 1 node.id) [] itself
+      named (Some e) h =
+          cases (fits outer own category.typedef_name) (is_typedef e.entity) _ _
+          (λ f. let t = h e refl f in given_settles (fits outer own category.typedef_name) _ t.value _ t.is (settled (fits outer own category.typedef_name) (means (a_type t.value)) refl))
+          (λ f. broken (fits outer own category.typedef_name) (rule 1 node.id) [] itself)
+      by : (s t : Bool)
+          → Settles (fits outer own (if s then category.storage_word else if t then category.type_specifier else category.typedef_name)) (if s || t then means itself else typedef_type js node (denoted p.names node.id node.label.text))
+      by true t = settled (fits outer own category.storage_word) (means itself) refl
+      by false true = settled (fits outer own category.type_specifier) (means itself) refl
+      by false false = named (denoted p.names node.id node.label.text) h
 
   pub struct_settles : (p : Places) (js : List Judgement) (node : Node) → AllThere (map (λ n. members_of (judgement_at js n)) node.kids) → Settles (fits outer own category.type_specifier) (struct_specifier p js node)
   unfolding struct_specifier struct_body

@@ -29,9 +29,9 @@ pub record IsFunctionName (js : List Judgement) (e : Name) : Type 0 where
   pub typed : type_of_name js e ≡ Some type
   pub is : is_function type ≡ true
 
--- what is known of a name that is no typedef name
+-- what is known of a name, where it is no typedef name
 abbrev pub Known : List Judgement → Name → Entity → Type 0
-Known js e typedef_name = ⊥
+Known js e typedef_name = Unit {0}
 Known js e enumerator = Has (word_of_enumerator (judgement_at js e.node))
 Known js e function_name = IsFunctionName js e
 Known js e other = Has (type_of_name js e)
@@ -42,7 +42,7 @@ module _ (outer own : SynKind) (level : ℕ) where
 
   by_settles : (p : Places) (js : List Judgement) (node : Node) (e : Name) (k : Entity) → Known js e k → Settles Test (variable_by p js node e k)
   unfolding variable_by
-  by_settles p js node e typedef_name h = absurd h
+  by_settles p js node e typedef_name h = expressed outer own level (unknown_name false node.id) (number_of_type int 0) 0 refl
   by_settles p js node e enumerator h = given_settles Test _ h.value _ h.is (expressed outer own level [] _ 0 refl)
   by_settles p js node e function_name h = given_settles Test _ h.type _ h.typed (expressed outer own level _ _ 0 h.is)
   by_settles p js node e static_object h = given_settles Test _ h.value _ h.is (expressed outer own level [] _ 0 refl)

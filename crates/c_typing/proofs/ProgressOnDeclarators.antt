@@ -94,7 +94,7 @@ module _ (cat : ℕ → Category) (p : Places) (js : List Judgement) (n : ℕ) (
 
   pub on_word : Shape kind.Word → Settled kind.Word
   unfolding judged_by category_by
-  on_word s = decl.word_settles outer kind.Word p js m (r.special.named s.0)
+  on_word s = decl.word_settles outer kind.Word p js m r.special.named
 
   pub on_struct : Shape kind.StructSpec → Settled kind.StructSpec
   unfolding judged_by category_by

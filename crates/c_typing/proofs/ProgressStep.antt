@@ -8,10 +8,10 @@ use Rattle.c_syntax.specs.declared.kind.SynKind.TheVariants as kind
 use Rattle.c_grammar.specs.Vocabulary.{is_type_word, is_storage_word}
 use Rattle.c_typing.specs.Types.{CType}
 use Rattle.c_typing.specs.Places.{Node, node_at, kind_at, kid, has_kid, other_kids, parent_of, index_in, specs_of, is_declarator}
-use Rattle.c_typing.specs.Names.{Places, Name, denoted, function_around}
+use Rattle.c_typing.specs.Names.{Places, Name, is_typedef, denoted, function_around}
 use Rattle.c_typing.specs.Judgements.{fills_array, Judgement, means, waits, Typing, Meaning, typing_of, type_of, steps_of, code_of, judgement_at, typing_at, type_at, steps_at, code_at}
 use Rattle.c_typing.specs.Conversions.{value_of, operator_of}
-use Rattle.c_typing.specs.Expressions.{before_equal, word_of_enumerator}
+use Rattle.c_typing.specs.Expressions.{type_of_name, before_equal, word_of_enumerator}
 use Rattle.c_typing.specs.Declarators.{spec_meaning, members_of, member_at}
 use Rattle.c_typing.specs.Initializers.{target, fills, initializes_nothing}
 use Rattle.c_typing.specs.Statements.{declarator_code, item_at, for_part, part_by, first_by}
@@ -24,7 +24,6 @@ use Rattle.c_typing.proofs.ProgressKinds as of
 use Rattle.c_typing.proofs.ProgressKinds.{Operand, Code, rest, is_for_part, is_for_first, is_other, is_plain, other_kind, part_expression, first_expression, part_over}
 use Rattle.c_typing.proofs.ProgressOperators.{of_binary_operator, of_assignment}
 use Rattle.c_typing.proofs.ProgressNames.{Known, IsTarget, IsInitial}
-use Rattle.c_typing.proofs.ProgressDeclarators.{IsNamed}
 
 no : {A : Type 0} → false ≡ true → A
 no e = absurd (true≢false (sym e))
@@ -39,7 +38,7 @@ pub record KidHas (cat : ℕ → Category) (p : Places) (js : List Judgement) (o
 -- what is known, where a node is reached, of what its meaning is made of beside its kids
 pub record Special (cat : ℕ → Category) (p : Places) (js : List Judgement) (n : ℕ) (outer : SynKind) (m : Node) : Type 0 where
   pub specified : is_part (cat n) ≡ true → not (is_declarator outer) ≡ true → Has (type_at js (specs_of p.nodes (parent_of p.nodes m.id)).id)
-  pub named : m.label.kind ≡ kind.Word → is_storage_word m.label.text ≡ false → is_type_word m.label.text ≡ false → IsNamed p js m
+  pub named : (e : Name) → denoted p.names m.id m.label.text ≡ Some e → is_typedef e.entity ≡ true → Has (type_of_name js e)
   pub known : m.label.kind ≡ kind.Var → (e : Name) → denoted p.names m.id m.label.text ≡ Some e → Known js e e.entity
   pub filled : m.label.kind ≡ kind.Str → fills (target p js m.id) ≡ true → may_fill fills_array outer ≡ true
   pub braced : m.label.kind ≡ kind.Braces → initializes_nothing p m ≡ false → IsTarget p js m

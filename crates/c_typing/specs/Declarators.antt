@@ -58,13 +58,15 @@ said_type [] (t ∷ []) = Some t
 said_type words types = None
 
 -- a word among specs; one that is no keyword is a typedef name (6.7.7)
-unfoldable pub typedef_type : List Judgement → Name → Judgement
-typedef_type js e = if is_typedef e.entity then given (type_of_name js e) (λ t. means (a_type t)) else waits
+unfoldable pub typedef_type : List Judgement → Node → Option Name → Judgement
+typedef_type js node None = verdict (bad_type_words None node.id) itself
+typedef_type js node (Some e) =
+    if is_typedef e.entity then given (type_of_name js e) (λ t. means (a_type t)) else verdict (bad_type_words None node.id) itself
 
 unfoldable pub spec_word : Places → List Judgement → Node → Judgement
 spec_word p js node =
     if is_storage_word node.label.text || is_type_word node.label.text then means itself
-    else given (denoted p.names node.id node.label.text) (typedef_type js)
+    else typedef_type js node (denoted p.names node.id node.label.text)
 
 abbrev pub spec_meaning : Judgement → Option (List CType)
 spec_meaning (means itself) = Some []

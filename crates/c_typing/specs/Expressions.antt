@@ -87,7 +87,7 @@ word_of_enumerator (means (enumerates w)) = Some w
 word_of_enumerator j = None
 
 unfoldable pub variable_by : Places → List Judgement → Node → Name → Entity → Judgement
-variable_by p js node e typedef_name = waits
+variable_by p js node e typedef_name = verdict (unknown_name false node.id) (expression (number_of_type int 0))
 variable_by p js node e enumerator = given (word_of_enumerator (judgement_at js e.node)) λ w. means (expression (number_of_type int w))
 variable_by p js node e function_name = given (type_of_name js e) λ t.
     verdict (function_as_value (is_called p (length p.nodes) node.id) node.id)
