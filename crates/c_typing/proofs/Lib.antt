@@ -38,3 +38,5 @@ pub mod ProgressBefore
 pub mod ProgressAround
 pub mod ProgressWhole
 pub mod ProgressDeclared
+pub mod ProgressTargets
+pub mod ProgressInitial

@@ -9,7 +9,7 @@ use Rattle.c_typing.specs.Places.{Node, kid, has_kid, node_at}
 use Rattle.c_typing.specs.Names.{Places, Name, Entity, typedef_name, function_name, static_object, automatic, parameter, enumerator, is_static, denoted, name_of}
 use Rattle.c_typing.specs.Judgements.{Fault, Meaning, expresses, initial, initialized, fills_array, Judgement, means, waits, verdict, given, typing_at, type_at, judgement_at, layouts}
 use Rattle.c_typing.specs.Expressions.{type_of_name, word_of_enumerator, variable_by, variable, expression, number_of_type, literal}
-use Rattle.c_typing.specs.Initializers.{is_object, target, fills, string, Part, part_for, kid_part, too_many, init_around, is_static_name, braces_for, initializes_nothing, braces, initialized_object, init_by, init_declarator, bare_code}
+use Rattle.c_typing.specs.Initializers.{is_object, target, fills, string, Part, part_for, kid_part, too_many, init_around, is_static_name, braces_for, braces_by, braces, initialized_object, init_by, init_declarator, bare_code}
 use Rattle.c_typing.specs.Shapes as category
 use Rattle.c_typing.specs.Shapes.{Category}
 use Rattle.c_typing.specs.Meant.{is_callable}
@@ -63,11 +63,9 @@ module _ (outer : SynKind) (level : ℕ) where
       cases (fits outer kind.Str (category.expression level)) (fills (target p js node.id)) _ _ (λ e. settled (fits outer kind.Str (category.expression level)) (means fills_array) (h e))
       (λ e. settled (fits outer kind.Str (category.expression level)) (means (expression (literal p js node.label.bytes))) refl)
 
--- what braces initialize, and their parts
-pub record IsTarget (p : Places) (js : List Judgement) (node : Node) : Type 0 where
-  pub type : CType
-  pub found : target p js node.id ≡ Some type
-  pub parts : AllThere (map (kid_part p js (is_static_name (init_around p node)) type node) (range_with_len 0 (length node.kids)))
+-- the parts of braces for an object of this type
+abbrev pub HasParts : Places → List Judgement → Node → CType → Type 0
+HasParts p js node t = AllThere (map (kid_part p js (is_static_name (init_around p node)) t node) (range_with_len 0 (length node.kids)))
 
 -- what is known of a declarator with an initializer
 pub record IsInitial (p : Places) (js : List Judgement) (node : Node) : Type 0 where
@@ -78,13 +76,16 @@ pub record IsInitial (p : Places) (js : List Judgement) (node : Node) : Type 0 w
   pub part : has_kid node 1 ≡ true → is_object name.entity ≡ true → Has (part_for p js (is_static name.entity) false type (kid node 1))
 
 module _ (outer own : SynKind) where
-  pub braces_settle : (p : Places) (js : List Judgement) (node : Node) → (initializes_nothing p node ≡ false → IsTarget p js node) → Settles (fits outer own category.braces) (braces p js node)
+  pub braces_settle : (p : Places) (js : List Judgement) (node : Node) → ((t : CType) → target p js node.id ≡ Some t → HasParts p js node t) → Settles (fits outer own category.braces) (braces p js node)
   unfolding braces braces_for
-  braces_settle p js node h =
-      cases (fits outer own category.braces) (initializes_nothing p node) _ _ (λ e. settled (fits outer own category.braces) (means (initial 0 [])) refl)
-      (λ e. let t = h e in let parts = all_there _ t.parts in given_settles (fits outer own category.braces) _ t.type _ t.found (
-      besides_settles (fits outer own category.braces) (too_many p (layouts js) t.type node) _ (λ none.
-      given_settles (fits outer own category.braces) _ parts.0 _ parts.1 (verdict_settles (fits outer own category.braces) _ _ refl))))
+  braces_settle p js node h = by (target p js node.id) h
+    where
+      by : (o : Option CType) → ((t : CType) → o ≡ Some t → HasParts p js node t) → Settles (fits outer own category.braces) (braces_by p js node o)
+      by None h = settled (fits outer own category.braces) (means (initial 0 [])) refl
+      by (Some t) h =
+          let parts = all_there (map (kid_part p js (is_static_name (init_around p node)) t node) (range_with_len 0 (length node.kids))) (h t refl) in
+          besides_settles (fits outer own category.braces) (too_many p (layouts js) t node) _ (λ none.
+          given_settles (fits outer own category.braces) _ parts.0 _ parts.1 (verdict_settles (fits outer own category.braces) _ _ refl))
 
   pub initializer_settles : (p : Places) (js : List Judgement) (node : Node) → IsInitial p js node → Settles (fits outer own category.init_declarator) (init_declarator p js node)
   unfolding init_declarator init_by initialized_object

@@ -13,7 +13,7 @@ use Rattle.c_typing.specs.Judgements.{fills_array, Judgement, means, waits, Typi
 use Rattle.c_typing.specs.Conversions.{value_of, operator_of}
 use Rattle.c_typing.specs.Expressions.{type_of_name, before_equal, word_of_enumerator}
 use Rattle.c_typing.specs.Declarators.{spec_meaning, members_of, member_at}
-use Rattle.c_typing.specs.Initializers.{target, fills, initializes_nothing}
+use Rattle.c_typing.specs.Initializers.{target, fills}
 use Rattle.c_typing.specs.Statements.{declarator_code, item_at, for_part, part_by, first_by}
 use Rattle.c_typing.specs.Typing.{judged_by}
 use Rattle.c_typing.specs.Shapes as category
@@ -23,7 +23,7 @@ use Rattle.c_typing.proofs.ProgressForms.{fits, may_fill, holds_initial, is_some
 use Rattle.c_typing.proofs.ProgressKinds as of
 use Rattle.c_typing.proofs.ProgressKinds.{Operand, Code, rest, is_for_part, is_for_first, is_other, is_plain, other_kind, part_expression, first_expression, part_over}
 use Rattle.c_typing.proofs.ProgressOperators.{of_binary_operator, of_assignment}
-use Rattle.c_typing.proofs.ProgressNames.{Known, IsTarget, IsInitial}
+use Rattle.c_typing.proofs.ProgressNames.{Known, HasParts, IsInitial}
 
 no : {A : Type 0} → false ≡ true → A
 no e = absurd (true≢false (sym e))
@@ -41,7 +41,7 @@ pub record Special (cat : ℕ → Category) (p : Places) (js : List Judgement) (
   pub named : (e : Name) → denoted p.names m.id m.label.text ≡ Some e → is_typedef e.entity ≡ true → Has (type_of_name js e)
   pub known : m.label.kind ≡ kind.Var → (e : Name) → denoted p.names m.id m.label.text ≡ Some e → Known js e e.entity
   pub filled : m.label.kind ≡ kind.Str → fills (target p js m.id) ≡ true → may_fill fills_array outer ≡ true
-  pub braced : m.label.kind ≡ kind.Braces → initializes_nothing p m ≡ false → IsTarget p js m
+  pub braced : m.label.kind ≡ kind.Braces → (t : CType) → target p js m.id ≡ Some t → HasParts p js m t
   pub initial : m.label.kind ≡ kind.InitDecl → IsInitial p js m
   pub returns : m.label.kind ≡ kind.Return → Has (type_at js (kid (function_around p m.id) 1))
   pub before : m.label.kind ≡ kind.Enumer → (i : ℕ) → index_in (parent_of p.nodes m.id).kids m.id ≡ suc i
