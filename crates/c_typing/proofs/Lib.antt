@@ -40,3 +40,4 @@ pub mod ProgressWhole
 pub mod ProgressDeclared
 pub mod ProgressTargets
 pub mod ProgressInitial
+pub mod ProgressInside

@@ -85,7 +85,7 @@ pub found_at : (ns : List Node) (n : ℕ) (m : Node) → slice_get ns n ≡ Some
 found_at ns n m e = ap (λ o. unwrap_or o nowhere) e
 
 module _ (cat : ℕ → Category) (p : Places) (s : AreShaped cat p.nodes) where
-  kid_has : (n : ℕ) (m : Node) → slice_get p.nodes n ≡ Some m → ((k : ℕ) → k < n → Meant cat p k) → (i j : ℕ) → slice_get m.kids i ≡ Some j
+  pub kid_has : (n : ℕ) (m : Node) → slice_get p.nodes n ≡ Some m → ((k : ℕ) → k < n → Meant cat p k) → (i j : ℕ) → slice_get m.kids i ≡ Some j
       → KidHas cat p (take n (judgements_at p)) m.label.kind j
   kid_has n m e before i j at =
       let k = kid_of p.nodes m.first n m.kids i j (s.tiled n m e).kids at in

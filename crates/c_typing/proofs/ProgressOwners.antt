@@ -139,7 +139,7 @@ module _ (cat : ℕ → Category) (ns : List Node) (l : AreLinked cat ns) where
   id_of n j test b = ap (λ (x : Node). x.id) (found_at ns j b.node b.at) ∙ (l.shapes.tiled j b.node b.at).numbered
 
   -- the specs of a declarator with an initializer
-  init_specs : (n : ℕ) (m : Node) → slice_get ns n ≡ Some m → m.label.kind ≡ kind.InitDecl → (kid (node_at ns m.parent) 0 < m.first) × Before cat ns n (kid (node_at ns m.parent) 0) is_specs
+  pub init_specs : (n : ℕ) (m : Node) → slice_get ns n ≡ Some m → m.label.kind ≡ kind.InitDecl → (kid (node_at ns m.parent) 0 < m.first) × Before cat ns n (kid (node_at ns m.parent) 0) is_specs
   unfolding category_by
   init_specs n m e same = by (l.linked n m e)
     where

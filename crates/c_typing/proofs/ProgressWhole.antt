@@ -142,7 +142,7 @@ pub record WholeAt (cat : ℕ → Category) (ns : List Node) (place : ℕ) : Typ
   pub whole : not (is_declarator (kind_at ns node.parent)) ≡ true
 
 module _ (cat : ℕ → Category) (ns : List Node) (l : AreLinked cat ns) where
-  first_begins : (n : ℕ) (q m : Node) (k : ℕ) → KidsFrom ns q.first n n q.kids → slice_get q.kids 0 ≡ Some k → slice_get ns k ≡ Some m → m.first ≡ q.first
+  pub first_begins : (n : ℕ) (q m : Node) (k : ℕ) → KidsFrom ns q.first n n q.kids → slice_get q.kids 0 ≡ Some k → slice_get ns k ≡ Some m → m.first ≡ q.first
   first_begins n q m k tile at e = by q.kids tile at
     where
       by : (ks : List ℕ) → KidsFrom ns q.first n n ks → slice_get ks 0 ≡ Some k → m.first ≡ q.first
@@ -158,6 +158,7 @@ module _ (cat : ℕ → Category) (ns : List Node) (l : AreLinked cat ns) where
     pub is : whole_declarator ns i ≡ whole.node
     pub first : whole.node.first ≡ i
     pub from : i ≤ place
+    pub latest : (j : ℕ) (x : Node) → slice_get ns j ≡ Some x → in_declarator i x ≡ true → j ≤ place
 
   leaf_first : (i : ℕ) (m : Node) → slice_get ns i ≡ Some m → m.label.kind ≡ kind.Ident → m.first ≡ i
   unfolding kids_fit
@@ -175,6 +176,7 @@ module _ (cat : ℕ → Category) (ns : List Node) (l : AreLinked cat ns) where
     whole = record { node = r.node; at = r.at; is = own; whole = by (l.linked r.place r.node r.at) };
     is = ap (λ o. unwrap_or o nowhere) (r.is None);
     first = first;
+    latest = r.latest;
     from = let f = first in let low = first_low cat ns l r.place r.node r.at in omega (arith, f, low);
   }
     where
