@@ -41,3 +41,5 @@ pub mod ProgressDeclared
 pub mod ProgressTargets
 pub mod ProgressInitial
 pub mod ProgressInside
+pub mod ProgressSpecials
+pub mod ProgressInitials

@@ -91,7 +91,7 @@ pub record IsEnumerator (ns : List Node) (e : Name) : Type 0 where
   pub behind : e.behind ≡ e.node
   pub entity : e.entity ≡ enumerator
 
-abbrev is_enumerator_entity : Entity → Bool
+abbrev pub is_enumerator_entity : Entity → Bool
 is_enumerator_entity enumerator = true
 is_enumerator_entity k = false
 

@@ -118,7 +118,7 @@ any_kept : (test : Name → Bool) (s : List Node) (scopes : List Scope) (names :
 any_kept test s scopes names [] e = e
 any_kept test s scopes names (node ∷ rest) e = any_kept test s scopes (names ++ names_by s scopes names node node.label.kind) rest (any_front test names _ e)
 
-any_from : (test : Name → Bool) (s : List Node) (scopes : List Scope) (names : List Name) (rest : List Node) (k : ℕ) (node : Node) → slice_get rest k ≡ Some node
+pub any_from : (test : Name → Bool) (s : List Node) (scopes : List Scope) (names : List Name) (rest : List Node) (k : ℕ) (node : Node) → slice_get rest k ≡ Some node
     → ((before : List Name) → list_any test (names_by s scopes before node node.label.kind) ≡ true) → list_any test (names_from s scopes names rest) ≡ true
 any_from test s scopes names [] k node e h = absurd (cc e)
 any_from test s scopes names (x ∷ rest) zero node e h =
@@ -134,6 +134,7 @@ pub record InitName (cat : ℕ → Category) (ns : List Node) (n : ℕ) (m : Nod
   pub node : Node
   pub at : slice_get ns place ≡ Some node
   pub less : place < n
+  pub below : node.parent ≡ n
   pub category : cat place ≡ category.declarator
   pub name : Node
   pub named : slice_get ns node.first ≡ Some name
@@ -169,7 +170,7 @@ module _ (cat : ℕ → Category) (ns : List Node) (l : AreLinked cat ns) where
       let tile = l.shapes.tiled n m e in
       let k = kid_at ns m.first n n m.kids 0 first.place tile.kids first.is in
       record {
-        place = first.place; is = first.is; node = k.3.node; at = k.3.at; less = k.2; category = own;
+        place = first.place; is = first.is; node = k.3.node; at = k.3.at; less = k.2; below = k.3.below; category = own;
         name = (low_of k.3.node k.3.at).node; named = (low_of k.3.node k.3.at).at; ident = ident k.3.node k.3.at;
         whole = whole k.3.node k.3.at k.2 k.3.below;
       }

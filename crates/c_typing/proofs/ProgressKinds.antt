@@ -447,3 +447,8 @@ is_unit_only c = false
 pub only_declarator : (c : Category) → is_declarator_only c ≡ true → c ≡ category.declarator
 only_declarator category.declarator e = refl
 only_declarator _ e = no e
+
+pub optional_initial : (cs : List Category) → at_most_one is_initializer cs ≡ true → list_all is_initial cs ≡ true
+optional_initial [] e = refl
+optional_initial (c ∷ []) e = both (initial c e) refl
+optional_initial (c ∷ d ∷ cs) e = no e
