@@ -43,3 +43,4 @@ pub mod ProgressInitial
 pub mod ProgressInside
 pub mod ProgressSpecials
 pub mod ProgressInitials
+pub mod Progress

@@ -25,7 +25,7 @@ pub cases : (test : Judgement → Bool) (b : Bool) (x y : Judgement) → (b ≡ 
 cases test true x y s u = s refl
 cases test false x y s u = u refl
 
-broken : (test : Judgement → Bool) (f : Fault) (fs : List Fault) (m : Meaning) → Settles test (verdict (f ∷ fs) m)
+pub broken : (test : Judgement → Bool) (f : Fault) (fs : List Fault) (m : Meaning) → Settles test (verdict (f ∷ fs) m)
 broken test f fs m = record { passes = λ c. absurd (cc c) }
 
 by_faults : (test : Judgement → Bool) (fs : List Fault) (j : Judgement) (m : Meaning) → Settles test j

@@ -29,7 +29,7 @@ use Rattle.c_typing.proofs.ProgressAround.{is_body, function_typed}
 use Rattle.c_typing.proofs.ProgressInitial.{has_part, of_parent, init_target, braces_target, all_parts, kid_part_there}
 use Rattle.c_typing.proofs.ProgressTargets.{target_later, parts_later, typed_later}
 use Rattle.c_typing.proofs.ProgressInside.{InitName, init_name, any_from}
-use Rattle.c_typing.proofs.ProgressSpecials.{ArePlaced, FunctionsTyped, named, known, filled, long, string_target}
+use Rattle.c_typing.proofs.ProgressSpecials.{ArePlaced, named, known, filled, long, string_target}
 
 no : {A : Type 0} → false ≡ true → A
 no e = absurd (true≢false (sym e))
@@ -188,12 +188,12 @@ module _ (cat : ℕ → Category) (p : Places) (l : AreLinked cat p.nodes) (plac
           has_part cat p js static (is_scalar t) u m.label.kind j ok (kid_has cat p l.shapes n m e before i j there) id (λ string fill. text i j lt there k u pt string fill)
 
   -- all that is wanted beside the kids
-  pub specials : FunctionsTyped cat p → Specials cat p
+  pub specials : Specials cat p
   unfolding category_by
-  specials functions n m e before = record {
+  specials n m e before = record {
     specified = specified cat p l n m e before;
     named = named cat p l places n m e before;
-    known = λ same. known cat p l places functions n m e before;
+    known = λ same. known cat p l places n m e before;
     filled = λ same. filled cat p l places n m e;
     braced = braced n m e before;
     initial = initial n m e before;

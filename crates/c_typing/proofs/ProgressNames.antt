@@ -3,12 +3,13 @@ use Rattle.std.proofs.Common.{◌≡◌, ℕ, zero, suc, ◌+◌, Bool, true, fa
 use Rattle.std.specs.Prelude.{slice_get, unwrap_or, if◌then◌else◌}
 use Rattle.std.specs.List.{range_with_len}
 use Rattle.c_syntax.specs.declared.kind.SynKind.{SynKind}
+use Rattle.c_types.specs.Forms.{const}
 use Rattle.c_typing.specs.Types.{CType, is_function, int}
-use Rattle.c_typing.specs.Rules.{unknown_name, bad_initializer}
+use Rattle.c_typing.specs.Rules.{function_as_value, not_a_function, unknown_name, bad_initializer}
 use Rattle.c_typing.specs.Places.{Node, kid, has_kid, node_at}
 use Rattle.c_typing.specs.Names.{Places, Name, Entity, typedef_name, function_name, static_object, automatic, parameter, enumerator, is_static, denoted, name_of}
-use Rattle.c_typing.specs.Judgements.{Fault, Meaning, expresses, initial, initialized, fills_array, Judgement, means, waits, verdict, given, typing_at, type_at, judgement_at, layouts}
-use Rattle.c_typing.specs.Expressions.{type_of_name, word_of_enumerator, variable_by, variable, expression, number_of_type, literal}
+use Rattle.c_typing.specs.Judgements.{callee, no_constant, rule, Fault, Meaning, expresses, initial, initialized, fills_array, Judgement, means, waits, verdict, given, typing_at, type_at, judgement_at, layouts}
+use Rattle.c_typing.specs.Expressions.{is_called, callee_of, type_of_name, word_of_enumerator, variable_by, variable, expression, number_of_type, literal}
 use Rattle.c_typing.specs.Initializers.{is_object, target, fills, string, Part, part_for, kid_part, too_many, init_around, is_static_name, braces_for, braces_by, braces, initialized_object, init_by, init_declarator, bare_code}
 use Rattle.c_typing.specs.Shapes as category
 use Rattle.c_typing.specs.Shapes.{Category}
@@ -16,7 +17,7 @@ use Rattle.c_typing.specs.Meant.{is_callable}
 use Rattle.c_typing.proofs.ProgressBase.{Settles, settled, verdict_settles, besides_settles, given_settles, AllThere, all_there}
 use Rattle.c_typing.proofs.ProgressForms.{fits, may_fill, Has}
 use Rattle.c_typing.proofs.ProgressExpressions.{expressed}
-use Rattle.c_typing.proofs.ProgressDeclarators.{cases}
+use Rattle.c_typing.proofs.ProgressDeclarators.{cases, broken}
 use Rattle.c_syntax.specs.declared.kind.SynKind.TheVariants as kind
 
 no : {A : Type 0} → false ≡ true → A
@@ -24,16 +25,10 @@ no e = absurd (true≢false (sym e))
 
 -- ---- the name of a variable, a function or an enumerator
 
-pub record IsFunctionName (js : List Judgement) (e : Name) : Type 0 where
-  pub type : CType
-  pub typed : type_of_name js e ≡ Some type
-  pub is : is_function type ≡ true
-
 -- what is known of a name, where it is no typedef name
 abbrev pub Known : List Judgement → Name → Entity → Type 0
 Known js e typedef_name = Unit {0}
 Known js e enumerator = Has (word_of_enumerator (judgement_at js e.node))
-Known js e function_name = IsFunctionName js e
 Known js e other = Has (type_of_name js e)
 
 module _ (outer own : SynKind) (level : ℕ) where
@@ -44,7 +39,14 @@ module _ (outer own : SynKind) (level : ℕ) where
   unfolding variable_by
   by_settles p js node e typedef_name h = expressed outer own level (unknown_name false node.id) (number_of_type int 0) 0 refl
   by_settles p js node e enumerator h = given_settles Test _ h.value _ h.is (expressed outer own level [] _ 0 refl)
-  by_settles p js node e function_name h = given_settles Test _ h.type _ h.typed (expressed outer own level _ _ 0 h.is)
+  by_settles p js node e function_name h =
+      given_settles Test _ h.value _ h.is (callable (function_as_value (is_called p (length p.nodes) node.id) node.id) h.value (is_function h.value) refl)
+    where
+      callable : (fs : List Fault) (t : CType) (b : Bool) → is_function t ≡ b
+          → Settles Test (verdict (fs ++ not_a_function (is_function t) node.id) (expression (record { type = t; form = callee (callee_of p e.text); code = const 0; constant = no_constant })))
+      callable fs t true same = expressed outer own level (fs ++ not_a_function (is_function t) node.id) (record { type = t; form = callee (callee_of p e.text); code = const 0; constant = no_constant }) 0 same
+      callable [] t false same = subst (λ k. Settles Test (verdict (not_a_function k node.id) (expression (record { type = t; form = callee (callee_of p e.text); code = const 0; constant = no_constant })))) (sym same) (broken Test (rule 16 node.id) [] (expression (record { type = t; form = callee (callee_of p e.text); code = const 0; constant = no_constant })))
+      callable (f ∷ fs) t false same = broken Test f (fs ++ not_a_function (is_function t) node.id) (expression (record { type = t; form = callee (callee_of p e.text); code = const 0; constant = no_constant }))
   by_settles p js node e static_object h = given_settles Test _ h.value _ h.is (expressed outer own level [] _ 0 refl)
   by_settles p js node e automatic h = given_settles Test _ h.value _ h.is (expressed outer own level [] _ 0 refl)
   by_settles p js node e (parameter i) h = given_settles Test _ h.value _ h.is (expressed outer own level [] _ 0 refl)

@@ -20,7 +20,7 @@ use Rattle.c_typing.proofs.ProgressBase.{judged_at, earlier_at, AllThere}
 use Rattle.c_typing.proofs.ProgressForms.{fits, may_fill, Has, has_type, has_its_type}
 use Rattle.c_typing.proofs.ProgressKinds as of
 use Rattle.c_typing.proofs.ProgressOperators.{found}
-use Rattle.c_typing.proofs.ProgressNames.{IsFunctionName, Known, HasParts, IsInitial}
+use Rattle.c_typing.proofs.ProgressNames.{Known, HasParts, IsInitial}
 use Rattle.c_typing.proofs.ProgressStep.{KidHas, Special, at_all, has_at}
 use Rattle.c_typing.proofs.ProgressAll.{AreShaped, Meant, found_at, kid_has}
 use Rattle.c_typing.proofs.ProgressKids.{KidsFrom, Kid, kid_of}
@@ -40,10 +40,6 @@ pub record ArePlaced (p : Places) : Type 0 where
   pub names : p.names ≡ names_from p.nodes p.scopes [] p.nodes
   pub functions : p.functions ≡ filter (λ node. is_function node.label.kind) p.nodes
 
--- a function's name has the type of a function
-abbrev pub FunctionsTyped : (ℕ → Category) → Places → Type 0
-FunctionsTyped cat p = (n : ℕ) (e : Name) → ((k : ℕ) → k < n → Meant cat p k) → e.behind < n → IsDeclaredName cat p.nodes e → e.entity ≡ function_name → IsFunctionName (take n (judgements_at p)) e
-
 module _ (cat : ℕ → Category) (p : Places) (l : AreLinked cat p.nodes) (places : ArePlaced p) where
   all_stand : AllNames (Stands cat p.nodes) p.names
   all_stand = subst (λ es. AllNames (Stands cat p.nodes) es) (sym places.names) (all_names_stand cat p.nodes l p.scopes)
@@ -61,8 +57,8 @@ module _ (cat : ℕ → Category) (p : Places) (l : AreLinked cat p.nodes) (plac
       by (inl en) lt = no (ap is_typedef (sym en.entity) ∙ typedef)
       by (inr de) lt = typed_name cat p l n e before lt de
 
-  pub known : FunctionsTyped cat p → (n : ℕ) (m : Node) → slice_get p.nodes n ≡ Some m → ((k : ℕ) → k < n → Meant cat p k) → (e : Name) → denoted p.names m.id m.label.text ≡ Some e → Known (take n (judgements_at p)) e e.entity
-  known functions n m at before e d =
+  pub known : (n : ℕ) (m : Node) → slice_get p.nodes n ≡ Some m → ((k : ℕ) → k < n → Meant cat p k) → (e : Name) → denoted p.names m.id m.label.text ≡ Some e → Known (take n (judgements_at p)) e e.entity
+  known n m at before e d =
       let f = of_denoted (Stands cat p.nodes) p.names m.id m.label.text e all_stand d in
       let id = (l.shapes.tiled n m at).numbered in
       let less = begins_before m.id m.label.text e f.1 in
@@ -76,7 +72,7 @@ module _ (cat : ℕ → Category) (p : Places) (l : AreLinked cat p.nodes) (plac
         where
           enumerates : is_enumerator_entity e.entity ≡ false → e.entity ≡ enumerator → ⊥
           enumerates f g = true≢false (ap is_enumerator_entity (sym g) ∙ f)
-      entity de lt function_name same = functions n e before lt de same
+      entity de lt function_name same = typed_name cat p l n e before lt de
       entity de lt static_object same = typed_name cat p l n e before lt de
       entity de lt automatic same = typed_name cat p l n e before lt de
       entity de lt (parameter i) same = typed_name cat p l n e before lt de
