@@ -43,4 +43,5 @@ pub mod ProgressInitial
 pub mod ProgressInside
 pub mod ProgressSpecials
 pub mod ProgressInitials
-pub mod Progress
+pub mod ProgressMeant
+pub mod BoundsBase

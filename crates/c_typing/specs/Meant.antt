@@ -158,3 +158,8 @@ pub record HasOneUnit (t : Tree) : Type 0 where
   pub unit : Whole
   pub typed : IsTyped t unit
   pub only : (other : Whole) → IsTyped t other → other ≡ unit
+
+-- no rule is broken, and no size is too big
+pub record IsSound (t : Tree) : Type 0 where
+  pub no_rule : (rule node : ℕ) → Breaks rule node t → ⊥
+  pub no_size : (node measure : ℕ) → TooBig node measure t → ⊥

@@ -40,4 +40,4 @@
 
 mod laws;
 
-pub use laws::{identifiers, names, nodes, parents, shapes};
+pub use laws::{identifiers, names, nodes, parents, progress, shapes};

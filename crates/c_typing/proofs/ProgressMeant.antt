@@ -1,17 +1,18 @@
 -- Where no rule is broken, all nodes of a derived tree have a meaning; so the tree is typed as one unit, or broken, or too big.
 use Rattle.std.proofs.Common.{◌≡◌, ℕ, zero, suc, ◌+◌, ◌<◌, ◌≤◌, Bool, true, false, not, ◌&&◌, List, [], ◌∷◌, map, Option, Some, None, refl, sym, ap, ap₂, ◌∙◌, subst, arith, true≢false, ◌⊎◌, inl, inr}
-use Rattle.std.specs.Prelude.{slice_get}
+use Rattle.std.specs.Prelude.{slice_get, Contains}
+use Rattle.c_types.specs.declared.tree.Unit.{Unit as Whole}
 use Rattle.c_lexer.specs.declared.token.Token.{Token}
 use Rattle.c_syntax.specs.declared.kind.SynKind.{SynKind}
 use Rattle.c_syntax.specs.Trees.{Tree}
 use Rattle.c_grammar.specs.Derivation.{IsTreeOf}
 use Rattle.c_typing.specs.Places.{Node, nodes, node_at, is_whole, kind_at, is_declarator}
 use Rattle.c_typing.specs.Names.{places}
-use Rattle.c_typing.specs.Judgements.{Meaning, Judgement, means, breaks_rules, waits, judgement_at}
-use Rattle.c_typing.specs.Typing.{faults}
+use Rattle.c_typing.specs.Judgements.{rule, too_big, Meaning, Judgement, means, breaks_rules, waits, judgement_at}
+use Rattle.c_typing.specs.Typing.{faults, IsTyped}
 use Rattle.c_typing.specs.Shapes.{Category}
 use Rattle.c_typing.specs.ShapesOfNodes.{category_at}
-use Rattle.c_typing.specs.Meant.{has_form, judgements, IsMeant}
+use Rattle.c_typing.specs.Meant.{IsSound, has_form, judgements, IsMeant}
 use Rattle.c_typing.proofs.ProgressForms.{fits, may_fill, split}
 use Rattle.c_typing.proofs.ProgressAll.{AreShaped, no_fault, all_meant, found_at}
 use Rattle.c_typing.proofs.ProgressPlaces.{AreLinked, are_linked}
@@ -42,3 +43,15 @@ meant tokens t n m derived quiet e =
     ap (λ k. not (is_declarator (kind_at (nodes t) (node_at (nodes t) k).parent))) (l.shapes.tiled n m e).numbered
     ∙ ap (λ (q : Node). not (is_declarator (kind_at (nodes t) q.parent))) (found_at (nodes t) n m e) in
     record { meaning = f.meaning; judged = f.is; form = ap (λ w. has_form (category_at t n) m.label.kind w f.meaning) whole ∙ f.form }
+
+nothing_there : {A : Type 0} (xs : List A) (x : A) → xs ≡ [] → Contains xs x → ⊥
+nothing_there {A = A} xs x e c = subst (λ (ys : List A). Contains ys x → ⊥) (sym e) (λ h. none h) c
+  where
+    none : Contains [] x → ⊥
+    none h = let lt = h.1 in absurd (omega (arith, lt))
+
+pub sound : (t : Tree) (u : Whole) → IsTyped t u → IsSound t
+sound t u typed = record {
+  no_rule = λ r n b. nothing_there (faults t) (rule r n) typed.keeps b;
+  no_size = λ n s b. nothing_there (faults t) (too_big n s) typed.keeps b;
+}
