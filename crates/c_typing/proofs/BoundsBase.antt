@@ -35,10 +35,14 @@ module _ (N : ℕ) where
   MeaningIn (steps ss) = StepsIn ss
   MeaningIn m = Unit {0}
 
-  abbrev pub JudgedIn : Judgement → Type 0
-  JudgedIn (means m) = MeaningIn m
-  JudgedIn (breaks_rules f fs) = Proper f × AllProper fs
-  JudgedIn waits = Unit {0}
+  abbrev pub Holds : Judgement → Type 0
+  Holds (means m) = MeaningIn m
+  Holds (breaks_rules f fs) = Proper f × AllProper fs
+  Holds waits = Unit {0}
+
+  -- all nodes that it names are there
+  pub record JudgedIn (j : Judgement) : Type 0 where
+    pub holds : Holds j
 
   -- ---- faults
 
@@ -67,18 +71,27 @@ module _ (N : ℕ) where
 
   -- ---- judgements
 
+  pub means_in : (m : Meaning) → MeaningIn m → JudgedIn (means m)
+  means_in m h = record { holds = h }
+
+  pub breaks_in : (r n : ℕ) → (nat_le 1 r && nat_le r 27) ≡ true → n < N → JudgedIn (breaks_rules (rule r n) [])
+  breaks_in r n e lt = record { holds = ((e, lt), tt) }
+
+  pub waits_in : JudgedIn waits
+  waits_in = record { holds = tt }
+
   pub verdict_in : (fs : List Fault) (m : Meaning) → AllProper fs → MeaningIn m → JudgedIn (verdict fs m)
-  verdict_in [] m h k = k
-  verdict_in (f ∷ fs) m h k = h
+  verdict_in [] m h k = record { holds = k }
+  verdict_in (f ∷ fs) m h k = record { holds = h }
 
   pub besides_in : (fs : List Fault) (j : Judgement) → AllProper fs → JudgedIn j → JudgedIn (besides fs j)
   besides_in [] j h k = k
-  besides_in (f ∷ fs) (means m) h k = h
-  besides_in (f ∷ fs) (breaks_rules g gs) h k = (h.0, both_in fs (g ∷ gs) h.1 k)
-  besides_in (f ∷ fs) waits h k = h
+  besides_in (f ∷ fs) (means m) h k = record { holds = h }
+  besides_in (f ∷ fs) (breaks_rules g gs) h k = record { holds = (h.0, both_in fs (g ∷ gs) h.1 k.holds) }
+  besides_in (f ∷ fs) waits h k = record { holds = h }
 
   pub given_in : {A : Type 0} (o : Option A) (f : A → Judgement) → ((a : A) → o ≡ Some a → JudgedIn (f a)) → JudgedIn (given o f)
-  given_in {A = A} None f h = tt
+  given_in {A = A} None f h = record { holds = tt }
   given_in {A = A} (Some a) f h = h a refl
 
   -- ---- what earlier nodes mean
@@ -87,27 +100,27 @@ module _ (N : ℕ) where
   AllIn js = (k : ℕ) → JudgedIn (judgement_at js k)
 
   pub typing_in : (js : List Judgement) (k : ℕ) (x : Typing) → AllIn js → typing_at js k ≡ Some x → ConstantIn x.constant
-  typing_in js k x all e = by (judgement_at js k) (all k) e
+  typing_in js k x all e = by (judgement_at js k) (all k).holds e
     where
       same : {y : Typing} → Some y ≡ Some x → y ≡ x
       same h = cc h
       of : (m : Meaning) → MeaningIn m → typing_of (means m) ≡ Some x → ConstantIn x.constant
       of (expresses y h) i e = subst (λ (z : Typing). ConstantIn z.constant) (same e) i
       of _ i e = absurd (cc e)
-      by : (j : Judgement) → JudgedIn j → typing_of j ≡ Some x → ConstantIn x.constant
+      by : (j : Judgement) → Holds j → typing_of j ≡ Some x → ConstantIn x.constant
       by (means m) i e = of m i e
       by (breaks_rules f fs) i e = absurd (cc e)
       by waits i e = absurd (cc e)
 
   pub steps_in : (js : List Judgement) (k : ℕ) (ss : List PlacedStep) → AllIn js → steps_at js k ≡ Some ss → StepsIn ss
-  steps_in js k ss all e = by (judgement_at js k) (all k) e
+  steps_in js k ss all e = by (judgement_at js k) (all k).holds e
     where
       same : {y : List PlacedStep} → Some y ≡ Some ss → y ≡ ss
       same h = cc h
       of : (m : Meaning) → MeaningIn m → steps_of (means m) ≡ Some ss → StepsIn ss
       of (steps y) i e = subst (λ z. StepsIn z) (same e) i
       of _ i e = absurd (cc e)
-      by : (j : Judgement) → JudgedIn j → steps_of j ≡ Some ss → StepsIn ss
+      by : (j : Judgement) → Holds j → steps_of j ≡ Some ss → StepsIn ss
       by (means m) i e = of m i e
       by (breaks_rules f fs) i e = absurd (cc e)
       by waits i e = absurd (cc e)

@@ -45,3 +45,7 @@ pub mod ProgressSpecials
 pub mod ProgressInitials
 pub mod ProgressMeant
 pub mod BoundsBase
+pub mod BoundsExpressions
+pub mod BoundsStatements
+pub mod BoundsDeclarators
+pub mod BoundsInitializers
