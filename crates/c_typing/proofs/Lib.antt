@@ -49,3 +49,4 @@ pub mod BoundsExpressions
 pub mod BoundsStatements
 pub mod BoundsDeclarators
 pub mod BoundsInitializers
+pub mod BoundsKinds
