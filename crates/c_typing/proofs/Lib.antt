@@ -50,3 +50,4 @@ pub mod BoundsStatements
 pub mod BoundsDeclarators
 pub mod BoundsInitializers
 pub mod BoundsKinds
+pub mod BoundsTree
