@@ -142,3 +142,65 @@ module _ (tokens : List Token) (t : Tree) (derived : IsTreeOf tokens t) where
       ids : (ns : List Node) → AllNodes (NodeIn (length (nodes t))) ns → AllNodes (λ m. m.id < length (nodes t)) ns
       ids [] h = tt
       ids (m ∷ ns) h = (h.0.own, ids ns h.1)
+
+  used_in : (node : Node) (o : Option Name) → node.id < length (nodes t) → AllProper (length (nodes t)) (use_faults (places t) node o)
+  used_in node None lt = tt
+  used_in node (Some e) lt = rule_in (length (nodes t)) (not (is_there (places t) e e.entity)) 17 node.id refl lt
+
+  placed_in : (node : Node) (k : SynKind) → node.id < length (nodes t) → AllProper (length (nodes t)) (place_faults_by (places t) node k)
+  placed_in node kind.Var lt = used_in node (denoted (places t).names node.id node.label.text) lt
+  placed_in node kind.Specs lt = rule_in (length (nodes t)) _ 2 node.id refl lt
+  placed_in node _ lt = tt
+
+  all_placed : (ns : List Node) → AllNodes (NodeIn (length (nodes t))) ns → AllProper (length (nodes t)) (flat_map (λ (node : Node). place_faults_by (places t) node node.label.kind) ns)
+  all_placed [] h = tt
+  all_placed (m ∷ ns) h =
+      both_in (length (nodes t)) (place_faults_by (places t) m m.label.kind) (flat_map (λ (node : Node). place_faults_by (places t) node node.label.kind) ns)
+      (placed_in m m.label.kind h.0.own) (all_placed ns h.1)
+
+  data_in : (js : List Judgement) → AllProper (length (nodes t)) (data_faults (places t) js)
+  data_in js =
+      let p = places t in
+      let ms = measures_of (data_of p js) in
+      let objects : AllNames (λ e. e.behind < length (nodes t)) (objects_of p) =
+      all_first (λ e. Stands (category_at t) (nodes t) e × (is_object_of p e ≡ true)) (λ e. e.behind < length (nodes t)) (objects_of p) (λ e h. behind_below e h.0)
+      (all_filter (Stands (category_at t) (nodes t)) (is_object_of p) p.names stands) in
+      ends_in (length (nodes t)) (offsets ms) ms (data_nodes p js)
+      (below_front (length (nodes t)) (map (λ (e : Name). e.behind) (objects_of p)) (map (λ (n : Node). n.id) (literals_of p js)) (names_below (length (nodes t)) (objects_of p) objects)
+      (literals_below (length (nodes t)) p.nodes js all_in_tree))
+    where
+      is_object_of : Places → Name → Bool
+      is_object_of p e = is_static e.entity && length (earlier p e) == 0 && is_defined_object p e
+
+  all_in_bounds : AllProper (length (nodes t)) (faults t)
+  unfolding faults
+  all_in_bounds =
+      let p = places t in
+      let js = judgements_at p in
+      by_list (length (nodes t)) (place_faults p ++ faults_of js) (data_faults p js)
+      (both_in (length (nodes t)) (place_faults p) (faults_of js) (all_placed (nodes t) all_in_tree)
+      (faults_in_bounds (length (nodes t)) js (judged_in (length (nodes t)) p places_in [] (nodes t) (λ k. waits_in (length (nodes t))) all_in_tree)))
+      (data_in js)
+
+  head_there : (fs : List Fault) (f : Fault) (rest : List Fault) → fs ≡ f ∷ rest → Contains fs f
+  head_there fs f rest e = subst (λ (gs : List Fault). Contains gs f) (sym e) (0, omega arith, refl)
+
+  pub one_typing : HasOneUnit t ⊎ (IsBroken t ⊎ IsTooBig t)
+  one_typing = by (faults t) refl all_in_bounds
+    where
+      long : length (nodes t) ≡ size (one t)
+      long = by_place.length-nodes 0 (size (one t)) (one t)
+      broken : (r n : ℕ) (rest : List Fault) → faults t ≡ rule r n ∷ rest → Proper (length (nodes t)) (rule r n) → IsBroken t
+      broken r n rest e h = record {
+        rule = r; node = n; breaks = head_there (faults t) (rule r n) rest e;
+        least = grind (arith, nat_tests, h.0); most = grind (arith, nat_tests, h.0); within = let lt = h.1 in let same = long in omega (arith, lt, same);
+      }
+      big : (n s : ℕ) (rest : List Fault) → faults t ≡ too_big n s ∷ rest → Proper (length (nodes t)) (too_big n s) → IsTooBig t
+      big n s rest e h = record {
+        node = n; measure = s; big = head_there (faults t) (too_big n s) rest e;
+        above = grind (arith, nat_tests, h.0); within = let lt = h.1 in let same = long in omega (arith, lt, same);
+      }
+      by : (fs : List Fault) → faults t ≡ fs → AllProper (length (nodes t)) (faults t) → HasOneUnit t ⊎ (IsBroken t ⊎ IsTooBig t)
+      by [] e h = inl (record { unit = unit_of t; typed = record { keeps = e; unit = refl }; only = λ other typed. sym typed.unit })
+      by (rule r n ∷ rest) e h = let k = subst (λ (gs : List Fault). AllProper (length (nodes t)) gs) e h in inr (inl (broken r n rest e k.0))
+      by (too_big n s ∷ rest) e h = let k = subst (λ (gs : List Fault). AllProper (length (nodes t)) gs) e h in inr (inr (big n s rest e k.0))

@@ -1,5 +1,5 @@
 // What holds of all derived trees.
-ghost use Rattle.std.specs.Prelude.{◌≡◌, ℕ, ◌<◌, true, List, [], length, slice_get, Some};
+ghost use Rattle.std.specs.Prelude.{◌≡◌, ◌⊎◌, ℕ, ◌<◌, true, List, [], length, slice_get, Some};
 ghost use Rattle.std.specs.List.{list_all};
 ghost use Rattle.c_lexer.specs.declared.token.Token.{Token};
 ghost use Rattle.c_syntax.specs.declared.kind.SynKind.{SynKind};
@@ -12,7 +12,7 @@ ghost use Rattle.c_typing.specs.Places.{Node, nodes};
 ghost use Rattle.c_typing.specs.ShapesOfNodes.{IsPlaced, HasParent};
 ghost use Rattle.c_types.specs.declared.tree.Unit.{Unit};
 ghost use Rattle.c_typing.specs.Typing.{faults, IsTyped};
-ghost use Rattle.c_typing.specs.Meant.{IsMeant, IsSound};
+ghost use Rattle.c_typing.specs.Meant.{IsMeant, IsSound, HasOneUnit, IsBroken, IsTooBig};
 ghost use Rattle.c_typing.specs.Shapes.{Category, unit, category_of, categories_of, kids_fit, stands_in, are_shaped, IsShapedAt, Fits, lowest_kind, begins_with, IsReadByNames};
 
 /// In a tree that some token list derives each node has its shape, and the root is a unit. So the node at each place of
@@ -64,13 +64,15 @@ pub fn nodes()
         → HasParent t n m }
 {}
 
-/// In a tree that some token list derives, where no rule is broken and no size is above the limit, each node has a meaning,
-/// with the form of its category. Where a tree is typed, no rule is broken, and no size is too big.
+/// One typing: a tree that some token list derives is typed as exactly one unit, or breaks a rule at one of its nodes, or has a
+/// size above the limit at one; and where a tree is typed, neither of the others holds. Where no rule is broken and no size is
+/// above the limit, each node has a meaning, with the form of its category.
 pub fn progress()
+    ensures one_typing { (tokens : List Token) (t : Tree) → IsTreeOf tokens t → HasOneUnit t ⊎ (IsBroken t ⊎ IsTooBig t) }
+    ensures alone { (t : Tree) (u : Unit) → IsTyped t u → IsSound t }
     ensures meant { (tokens : List Token) (t : Tree) (n : ℕ) (m : Node)
         → IsTreeOf tokens t
         → faults t ≡ []
         → slice_get (nodes t) n ≡ Some m
         → IsMeant t n m }
-    ensures alone { (t : Tree) (u : Unit) → IsTyped t u → IsSound t }
 {}

@@ -1,8 +1,12 @@
 use Rattle.c_typing.proofs.ProgressMeant.{meant, sound}
+use Rattle.c_typing.proofs.BoundsTree.{one_typing}
 use Rattle.c_typing.proofs.laws.progress.Goals as goal
 
-pub returns-clause-meant : goal.returns-clause-meant
-returns-clause-meant c tokens t n m derived quiet e = meant tokens t n m derived quiet e
+pub returns-clause-one_typing : goal.returns-clause-one_typing
+returns-clause-one_typing c tokens t derived = one_typing tokens t derived
 
 pub returns-clause-alone : goal.returns-clause-alone
 returns-clause-alone c t u typed = sound t u typed
+
+pub returns-clause-meant : goal.returns-clause-meant
+returns-clause-meant c tokens t n m derived quiet e = meant tokens t n m derived quiet e
