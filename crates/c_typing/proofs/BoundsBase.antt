@@ -104,9 +104,11 @@ module _ (N : ℕ) where
     where
       same : {y : Typing} → Some y ≡ Some x → y ≡ x
       same h = cc h
+
       of : (m : Meaning) → MeaningIn m → typing_of (means m) ≡ Some x → ConstantIn x.constant
       of (expresses y h) i e = subst (λ (z : Typing). ConstantIn z.constant) (same e) i
       of _ i e = absurd (cc e)
+
       by : (j : Judgement) → Holds j → typing_of j ≡ Some x → ConstantIn x.constant
       by (means m) i e = of m i e
       by (breaks_rules f fs) i e = absurd (cc e)
@@ -117,9 +119,11 @@ module _ (N : ℕ) where
     where
       same : {y : List PlacedStep} → Some y ≡ Some ss → y ≡ ss
       same h = cc h
+
       of : (m : Meaning) → MeaningIn m → steps_of (means m) ≡ Some ss → StepsIn ss
       of (steps y) i e = subst (λ z. StepsIn z) (same e) i
       of _ i e = absurd (cc e)
+
       by : (j : Judgement) → Holds j → steps_of j ≡ Some ss → StepsIn ss
       by (means m) i e = of m i e
       by (breaks_rules f fs) i e = absurd (cc e)
@@ -134,11 +138,13 @@ module _ (N : ℕ) where
       address (place_at o a true) = tt
       address (place_at o a false) = tt
       address _ = tt
+
       read : (t : CType) → ConstantIn (read_by t x).constant
       read (array t n) = address x.constant
       read (unsized t) = address x.constant
       read (struct k) = tt
       read _ = tt
+
       by : (f : Form) → ConstantIn (value_by f x).constant
       by (in_local k) = tt
       by in_memory = read x.type

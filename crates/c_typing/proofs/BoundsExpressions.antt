@@ -37,6 +37,7 @@ module _ (N : ℕ) where
           where
             function_faults : CType → List Fault
             function_faults t = function_as_value (is_called p (length p.nodes) node.id) node.id ++ not_a_function (is_function t) node.id
+
             function_meaning : CType → Judgement
             function_meaning t = verdict (function_faults t) (expression (record { type = t; form = callee (callee_of p e.text); code = const 0; constant = no_constant }))
         by static_object = given_in N (type_of_name js e) (λ t. means (expression (object_typing t (object_number p e)))) (λ w same. means_in N _ tt)
@@ -61,6 +62,7 @@ module _ (N : ℕ) where
         over_in : (z : Typing) → ConstantIn N z.constant → (b : Bool) → ConstantIn N (if b then z else value_of z).constant
         over_in z h true = h
         over_in z h false = value_in N z h
+
         element : (t u : CType) → ConstantIn N (element_typing (layouts js) t u (value_of x) (value_of y) (subscript_constant (size_of (layouts js) t) u (if is_array x.type then x else value_of x) (if is_array y.type then y else value_of y))).constant
         element t (pointer u) = element_in N (size_of (layouts js) t) _ _ (over_in y k (is_array y.type)) (over_in x h (is_array x.type))
         element t _ = element_in N (size_of (layouts js) t) _ _ (over_in x h (is_array x.type)) (over_in y k (is_array y.type))
@@ -130,8 +132,10 @@ module _ (N : ℕ) where
       where
         k : IntegerType
         k = promoted (integer_of v.type)
+
         minus : COp
         minus = signs [] k (record { text = codes "-"; class = subtractive; signed = op.SubS; unsigned = op.SubU })
+
         by : (b c : Bool) → ConstantIn N (if b then valued (integer k) (binary minus (const 0) v.code) (operated minus node.id (number 0) v.constant)
             else if c then valued (integer k) (binary op.Xor v.code (const minus_one)) (operated op.Xor node.id v.constant (number minus_one)) else valued (integer k) v.code v.constant).constant
         by true c = operated_in N minus node.id (number 0) v.constant own tt h

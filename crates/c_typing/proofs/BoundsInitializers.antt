@@ -45,6 +45,7 @@ module _ (N : ℕ) (p : Places) (js : List Judgement) (nodes : (k : ℕ) → (no
       cases : (b : Bool) (x : Typing) → ConstantIn N x.constant → PartIn (if b then Some (part [] (bad_initializer true n)) else Some (scalar_part ls static t (value_of x) n))
       cases true x h = some_in (part [] (bad_initializer true n)) (rule_in N true 24 n refl lt)
       cases false x h = some_in (scalar_part ls static t (value_of x) n) (scalar_in ls static t (value_of x) n lt (value_in N x h))
+
       by : (o : Option Typing) → ((x : Typing) → o ≡ Some x → ConstantIn N x.constant) → PartIn (value_part ls static t n o)
       by None h = none_in
       by (Some x) h = cases (is_array t || is_struct t) x (h x refl)
@@ -60,9 +61,11 @@ module _ (N : ℕ) (p : Places) (js : List Judgement) (nodes : (k : ℕ) → (no
     where
       node : Node
       node = node_at p.nodes n
+
       text : (b : Bool) (q : Part) → AllProper N q.faults → PartIn (if b then Some q else value_part (layouts js) static t node.id (typing_at js node.id))
       text true q h = some_in q h
       text false q h = value_part_in (layouts js) static t node.id node.id (nodes n)
+
       by : (k : SynKind) → PartIn (part_by p js static again t node k)
       by kind.Braces = braced_in node.id again (judgement_at js node.id) (nodes n)
       by kind.Str = text (is_text_array t) _ (rule_in N _ 24 node.id refl (nodes n))
@@ -74,6 +77,7 @@ module _ (N : ℕ) (p : Places) (js : List Judgement) (nodes : (k : ℕ) → (no
       mapped : (o : Option Part) → PartIn o → PartIn (option_map (λ (q : Part). record q { cells = map (moved (part_offset (layouts js) t i)) q.cells }) o)
       mapped None h = none_in
       mapped (Some q) h = some_in (record q { cells = map (moved (part_offset (layouts js) t i)) q.cells }) (h q refl)
+
       by : (o : Option CType) → PartIn (elim o as (λ x. Option Part) [ None ↦ Some (part [] []) | Some u ↦ option_map (λ (q : Part). record q { cells = map (moved (part_offset (layouts js) t i)) q.cells }) (part_for p js static (is_scalar t) u (kid node i)) ])
       by None = some_in (part [] []) tt
       by (Some u) = mapped (part_for p js static (is_scalar t) u (kid node i)) (part_in static (is_scalar t) u (kid node i))
@@ -88,6 +92,7 @@ module _ (N : ℕ) (p : Places) (js : List Judgement) (nodes : (k : ℕ) → (no
     where
       same : {x y : List Part} → Some x ≡ Some y → x ≡ y
       same h = cc h
+
       by : (o : Option (List Part)) → ((rs : List Part) → o ≡ Some rs → AllProper N (flat_map (λ (q : Part). q.faults) rs)) → before a o ≡ Some qs → AllProper N (flat_map (λ (q : Part). q.faults) qs)
       by None f e = absurd (cc e)
       by (Some rs) f e = subst (λ (x : List Part). AllProper N (flat_map (λ (q : Part). q.faults) x)) (same e) (both_in N a.faults (flat_map (λ (q : Part). q.faults) rs) (h 0 (Some a) refl a refl) (f rs refl))

@@ -20,6 +20,7 @@ module _ (N : ℕ) (p : Places) (js : List Judgement) (node : Node) (own : node.
     where
       specs : Node
       specs = node_at p.nodes (kid node 0)
+
       by : (b : Bool) (ss ts : List Stmt) → JudgedIn N (means (if b then performs ss else performs ts))
       by true ss ts = means_in N (performs ss) tt
       by false ss ts = means_in N (performs ts) tt
@@ -69,9 +70,11 @@ module _ (N : ℕ) (p : Places) (js : List Judgement) (node : Node) (own : node.
       by : (b : Bool) (x y : Judgement) → JudgedIn N x → JudgedIn N y → JudgedIn N (if b then x else y)
       by true x y h k = h
       by false x y h k = k
+
       value : (r : CType) (v : Typing) → AllProper N (return_faults r v node)
       value void v = rule_in N true 18 node.id refl own
       value t v = rule_in N (not (is_assignable t v)) 14 (kid node 0) refl (kids 0)
+
       none : (r : CType) → AllProper N (bad_return false r node.id)
       none void = tt
       none _ = rule_in N true 18 node.id refl own

@@ -104,10 +104,13 @@ module _ (tokens : List Token) (t : Tree) (derived : IsTreeOf tokens t) where
     where
       here : suc n ≤ length (nodes t)
       here = within (nodes t) n m e
+
       own : m.id < length (nodes t)
       own = let id = (l.shapes.tiled n m e).numbered in let h = here in omega (arith, id, h)
+
       below : (i k : ℕ) → slice_get m.kids i ≡ Some k → k < length (nodes t)
       below i k at = let q = (kid_of (nodes t) m.first n m.kids i k (l.shapes.tiled n m e).kids at).less in let h = here in omega (arith, q, h)
+
       by : (i : ℕ) (o : Option ℕ) → slice_get m.kids i ≡ o → unwrap_or o 0 < length (nodes t)
       by i None same = let h = here in omega (arith, h)
       by i (Some k) same = below i k same
@@ -139,6 +142,7 @@ module _ (tokens : List Token) (t : Tree) (derived : IsTreeOf tokens t) where
       by : (k : ℕ) (o : Option Node) → slice_get (nodes t) k ≡ o → (unwrap_or o nowhere).id < length (nodes t)
       by k None same = some_node
       by k (Some m) same = (node_in k m same).own
+
       ids : (ns : List Node) → AllNodes (NodeIn (length (nodes t))) ns → AllNodes (λ m. m.id < length (nodes t)) ns
       ids [] h = tt
       ids (m ∷ ns) h = (h.0.own, ids ns h.1)
@@ -190,16 +194,26 @@ module _ (tokens : List Token) (t : Tree) (derived : IsTreeOf tokens t) where
     where
       long : length (nodes t) ≡ size (one t)
       long = by_place.length-nodes 0 (size (one t)) (one t)
+
       broken : (r n : ℕ) (rest : List Fault) → faults t ≡ rule r n ∷ rest → Proper (length (nodes t)) (rule r n) → IsBroken t
       broken r n rest e h = record {
-        rule = r; node = n; breaks = head_there (faults t) (rule r n) rest e;
-        least = grind (arith, nat_tests, h.0); most = grind (arith, nat_tests, h.0); within = let lt = h.1 in let same = long in omega (arith, lt, same);
+        rule = r;
+        node = n;
+        breaks = head_there (faults t) (rule r n) rest e;
+        least = grind (arith, nat_tests, h.0);
+        most = grind (arith, nat_tests, h.0);
+        within = let lt = h.1 in let same = long in omega (arith, lt, same);
       }
+
       big : (n s : ℕ) (rest : List Fault) → faults t ≡ too_big n s ∷ rest → Proper (length (nodes t)) (too_big n s) → IsTooBig t
       big n s rest e h = record {
-        node = n; measure = s; big = head_there (faults t) (too_big n s) rest e;
-        above = grind (arith, nat_tests, h.0); within = let lt = h.1 in let same = long in omega (arith, lt, same);
+        node = n;
+        measure = s;
+        big = head_there (faults t) (too_big n s) rest e;
+        above = grind (arith, nat_tests, h.0);
+        within = let lt = h.1 in let same = long in omega (arith, lt, same);
       }
+
       by : (fs : List Fault) → faults t ≡ fs → AllProper (length (nodes t)) (faults t) → HasOneUnit t ⊎ (IsBroken t ⊎ IsTooBig t)
       by [] e h = inl (record { unit = unit_of t; typed = record { keeps = e; unit = refl }; only = λ other typed. sym typed.unit })
       by (rule r n ∷ rest) e h = let k = subst (λ (gs : List Fault). AllProper (length (nodes t)) gs) e h in inr (inl (broken r n rest e k.0))

@@ -51,3 +51,4 @@ pub mod BoundsDeclarators
 pub mod BoundsInitializers
 pub mod BoundsKinds
 pub mod BoundsTree
+pub mod ProgressUsed

@@ -23,7 +23,7 @@ use Rattle.c_typing.proofs.ProgressKind.{settles}
 
 -- ---- no faults
 
-fronts_empty : {A : Type 0} (xs ys : List A) → xs ++ ys ≡ [] → (xs ≡ []) × (ys ≡ [])
+pub fronts_empty : {A : Type 0} (xs ys : List A) → xs ++ ys ≡ [] → (xs ≡ []) × (ys ≡ [])
 fronts_empty {A = A} [] ys e = (refl, e)
 fronts_empty {A = A} (x ∷ xs) ys e = absurd (cc e)
 
@@ -108,7 +108,7 @@ module _ (cat : ℕ → Category) (p : Places) (s : AreShaped cat p.nodes) where
       record {
         kids = kid_has n m e before;
         numbered = λ i j at. let k = kid_of p.nodes m.first n m.kids i j tile.kids at in
-        ap (λ (q : Node). q.id) (found_at p.nodes j k.node k.at) ∙ (s.tiled j k.node k.at).numbered;
+            ap (λ (q : Node). q.id) (found_at p.nodes j k.node k.at) ∙ (s.tiled j k.node k.at).numbered;
         above = ap (λ o. kind_at p.nodes (node_at p.nodes o).parent) tile.numbered ∙ ap (λ (q : Node). kind_at p.nodes q.parent) (found_at p.nodes n m e);
         special = special n m e before;
       }
@@ -137,11 +137,11 @@ pub of_derived : (tokens : List Token) (t : Tree) → IsTreeOf tokens t → AreS
 of_derived tokens t derived = record {
   tiled = tiled tokens t derived;
   shaped = λ n m e.
-  let f = (node_placed tokens t derived n m e).fits in
-  let same = at_kids (categories_of (table_of t)) m.kids in
-  record {
-    category = f.category ∙ ap (λ cs. category_by m.label.kind m.label.text cs) same;
-    text = f.text;
-    kids = ap (λ cs. kids_fit m.label.kind m.label.text cs) (sym same) ∙ f.kids;
-  };
+      let f = (node_placed tokens t derived n m e).fits in
+      let same = at_kids (categories_of (table_of t)) m.kids in
+      record {
+        category = f.category ∙ ap (λ cs. category_by m.label.kind m.label.text cs) same;
+        text = f.text;
+        kids = ap (λ cs. kids_fit m.label.kind m.label.text cs) (sym same) ∙ f.kids;
+      };
 }

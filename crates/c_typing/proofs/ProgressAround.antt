@@ -84,8 +84,13 @@ module _ (cat : ℕ → Category) (ns : List Node) (l : AreLinked cat ns) where
       let under = up.1 in
       let over = up.0 in
       record {
-        place = m.parent; node = q.parent; at = q.at; is = same;
-        behind = subst (λ k. k < m.first) (sym second) apart; from = under; to = omega (arith, over);
+        place = m.parent;
+        node = q.parent;
+        at = q.at;
+        is = same;
+        behind = subst (λ k. k < m.first) (sym second) apart;
+        from = under;
+        to = omega (arith, over);
       }
     where
       index : (i : ℕ) → slice_get q.parent.kids i ≡ Some n → (get_or (map cat q.parent.kids) 0 no_category ≡ cat n → ⊥) → (get_or (map cat q.parent.kids) 1 no_category ≡ cat n → ⊥) → 1 < i
@@ -128,6 +133,7 @@ module _ (cat : ℕ → Category) (ns : List Node) (l : AreLinked cat ns) where
     where
       own : cat n ≡ category.unit
       own = (l.shapes.shaped n m e).category ∙ ap (λ k. category_by k m.label.text (map cat m.kids)) same
+
       by : (suc n ≡ length ns) ⊎ Linked ns n m → suc n ≡ length ns
       by (inl last) = last
       by (inr q) = no (ap (λ c. stands_in c q.parent.label.kind) (sym own) ∙ stands cat ns l n m q)
@@ -143,6 +149,7 @@ module _ (cat : ℕ → Category) (ns : List Node) (l : AreLinked cat ns) where
     where
       own : cat n ≡ category.function
       own = (l.shapes.shaped n m e).category ∙ ap (λ k. category_by k m.label.text (map cat m.kids)) same
+
       by : (suc n ≡ length ns) ⊎ Linked ns n m → OfRoot n m
       by (inl last) = absurd (unit_or own (l.root n m e last))
         where
@@ -196,11 +203,15 @@ found_in (x ∷ ns) g test k f e h i = by (g x) (test x) refl refl k e (λ j at.
         skip true false n gb tc = ap (λ q. find test (if q then x ∷ filter g ns else filter g ns)) gb ∙ ap (λ q. if q then Some x else find test (filter g ns)) tc
         skip true true (inl n) gb tc = absurd (true≢false n)
         skip true true (inr n) gb tc = absurd (true≢false n)
+
     by : (b c : Bool) → g x ≡ b → test x ≡ c → (k : ℕ) → slice_get (x ∷ ns) k ≡ Some f → ((j : ℕ) → slice_get ns j ≡ Some f → Found ns g test) → Found (x ∷ ns) g test
     by true true gb tc k e r = record {
       node = x;
       is = ap (λ q. find test (if q then x ∷ filter g ns else filter g ns)) gb ∙ ap (λ q. if q then Some x else find test (filter g ns)) tc;
-      place = 0; at = refl; chosen = gb; passes = tc;
+      place = 0;
+      at = refl;
+      chosen = gb;
+      passes = tc;
     }
     by true false gb tc zero e r = let same : x ≡ f = some_same e in absurd (true≢false (sym i ∙ (ap test (sym same) ∙ tc)))
     by false c gb tc zero e r = let same : x ≡ f = some_same e in absurd (true≢false (sym h ∙ (ap g (sym same) ∙ gb)))

@@ -60,6 +60,7 @@ module _ (cat : ℕ → Category) (p : Places) (l : AreLinked cat p.nodes) where
     where
       own : cat n ≡ category.enumerator
       own = (l.shapes.shaped n m e).category ∙ ap (λ k. category_by k m.label.text (map cat m.kids)) same
+
       by : (suc n ≡ length p.nodes) ⊎ Linked p.nodes n m → Has (word_of_enumerator (judgement_at (take n (judgements_at p)) (unwrap_or (slice_get (parent_of p.nodes m.id).kids i) 0)))
       by (inl last) = no (ap is_enumerator (sym (l.root n m e last) ∙ own))
       by (inr q) =

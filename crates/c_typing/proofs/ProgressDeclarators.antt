@@ -131,6 +131,7 @@ module _ (outer own : SynKind) where
           cases (fits outer own category.typedef_name) (is_typedef e.entity) _ _
           (λ f. let t = h e refl f in given_settles (fits outer own category.typedef_name) _ t.value _ t.is (settled (fits outer own category.typedef_name) (means (a_type t.value)) refl))
           (λ f. broken (fits outer own category.typedef_name) (rule 1 node.id) [] itself)
+
       by : (s t : Bool)
           → Settles (fits outer own (if s then category.storage_word else if t then category.type_specifier else category.typedef_name)) (if s || t then means itself else typedef_type js node (denoted p.names node.id node.label.text))
       by true t = settled (fits outer own category.storage_word) (means itself) refl

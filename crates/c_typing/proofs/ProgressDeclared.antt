@@ -113,6 +113,7 @@ entity_no_enumerator s owner specs c f kind.InitDecl x e =
   where
     entity_same : {x y : Entity} → Some x ≡ Some y → x ≡ y
     entity_same e = cc e
+
     declared : (a b c : Bool) → is_enumerator_entity (if a then typedef_name else if b then function_name else if c then static_object else automatic) ≡ false
     declared true b c = refl
     declared false true c = refl
@@ -134,18 +135,28 @@ module _ (cat : ℕ → Category) (ns : List Node) (l : AreLinked cat ns) where
     where
       id : node.id ≡ k
       id = (l.shapes.tiled k node e).numbered
+
       here : slice_get ns node.id ≡ Some node
       here = ap (λ j. slice_get ns j) id ∙ e
+
       listed : (w : NameIs cat ns l node.id) (same : node.label.kind ≡ kind.Ident) (whole : Node) (c : Scope) (f : Bool) (o : Option Entity) → whole ≡ w.whole.node → ((x : Entity) → o ≡ Some x → is_enumerator_entity x ≡ false)
           → AllNames (Stands cat ns) (name_list node whole c f o)
       listed w same whole c f None equal h = tt
       listed w same whole c f (Some x) equal h =
           subst (λ (v : Node). AllNames (Stands cat ns) (name_list node v c f (Some x))) (sym equal)
-          (let number = (l.shapes.tiled w.place w.whole.node w.whole.at).numbered in
-          (inr (record {
-            whole = record { node = w.whole.node; at = ap (λ j. slice_get ns j) number ∙ w.whole.at; is = ap cat number ∙ w.whole.is; whole = w.whole.whole };
-            owner = refl; node = node; at = here; is = same; declarator = w.is; entity = h x refl;
-          }), tt))
+          (let number = (l.shapes.tiled w.place w.whole.node w.whole.at).numbered in (
+            inr (record {
+              whole = record { node = w.whole.node; at = ap (λ j. slice_get ns j) number ∙ w.whole.at; is = ap cat number ∙ w.whole.is; whole = w.whole.whole };
+              owner = refl;
+              node = node;
+              at = here;
+              is = same;
+              declarator = w.is;
+              entity = h x refl;
+            }),
+            tt,
+          ))
+
       by : (kd : SynKind) → node.label.kind ≡ kd → AllNames (Stands cat ns) (names_by ns scopes before node kd)
       by kind.Ident same =
           let w = whole_of cat ns l node.id node here same in

@@ -7,7 +7,7 @@ use Rattle.c_syntax.specs.declared.kind.SynKind.TheVariants as kind
 use Rattle.std.specs.Option.{is_some}
 use Rattle.c_types.specs.Forms.{seq}
 use Rattle.c_typing.specs.Rules.{bad_operand, wrong_number, not_a_function}
-use Rattle.c_typing.specs.Types.{listed, IntegerType, Layout, promoted, integer_of,  CType, void, integer, pointer, array, unsized, struct, function}
+use Rattle.c_typing.specs.Types.{listed, IntegerType, Layout, promoted, integer_of, CType, void, integer, pointer, array, unsized, struct, function}
 use Rattle.c_typing.specs.Places.{Node, other_kids}
 use Rattle.c_typing.specs.Names.{Places}
 use Rattle.c_typing.specs.Judgements.{all_of, no_constant, Form, Constant, value, in_local, in_memory, temporary, callee, Meaning, expresses, Fault, Judgement, means, waits, Typing, verdict, given, typing_at, layouts, Callee}
@@ -30,6 +30,7 @@ callable_value x e = by x.form e
     read (unsized t) = refl
     read (struct k) = refl
     read _ = refl
+
     by : (f : Form) → is_callable f x.type ≡ true → is_callable (value_by f x).form (value_by f x).type ≡ true
     by (in_local k) h = refl
     by in_memory h = read x.type

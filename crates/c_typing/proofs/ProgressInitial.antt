@@ -115,18 +115,22 @@ has_part cat p js static again t outer j c k id text = by (kind_at p.nodes j) k.
   where
     node : Node
     node = node_at p.nodes j
+
     at_id : Has (typing_at js j) → Has (typing_at js node.id)
     at_id h = subst (λ i. Has (typing_at js i)) (sym id) h
+
     value : (own : SynKind) → fits outer own (cat j) (judgement_at js j) ≡ true → cat j ≡ category_by own k.text k.below → not_braces own ≡ true → is_string own ≡ false
         → Has (value_part (layouts js) static t node.id (typing_at js node.id))
     value own f e b s =
         let expr = value_only (cat j) c (ap is_braces_only e ∙ kind_no_braces own k.text k.below b) in
         has_value (layouts js) static t node.id (typing_at js node.id) (at_id (plain_typed outer own (cat j) (judgement_at js j) expr s f))
+
     filled : (b : Bool) → is_text_array t ≡ b → Has (typing_at js j) ⊎ (judgement_at js j ≡ means fills_array) → (judgement_at js j ≡ means fills_array → is_text_array t ≡ true)
         → (u : Part) → Has (if b then Some u else value_part (layouts js) static t node.id (typing_at js node.id))
     filled true e h g u = record { value = u; is = refl }
     filled false e (inl h) g u = has_value (layouts js) static t node.id (typing_at js node.id) (at_id h)
     filled false e (inr h) g u = absurd (true≢false (sym (g h) ∙ e))
+
     by : (own : SynKind) → fits outer own (cat j) (judgement_at js j) ≡ true → cat j ≡ category_by own k.text k.below → (own ≡ kind.Str → judgement_at js j ≡ means fills_array → is_text_array t ≡ true)
         → Has (part_by p js static again t node own)
     by kind.Braces f e g =
@@ -146,6 +150,7 @@ module _ (p : Places) (js : List Judgement) where
       is_fill : Judgement → Bool
       is_fill (means fills_array) = true
       is_fill j = false
+
       by : (b : Bool) → (if b then means fills_array else means (expression (literal p js node.label.bytes))) ≡ means fills_array → b ≡ true
       by true e = refl
       by false e = absurd (true≢false (sym (ap is_fill e)))

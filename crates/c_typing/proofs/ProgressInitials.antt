@@ -65,11 +65,13 @@ module _ (cat : ℕ → Category) (p : Places) (l : AreLinked cat p.nodes) (plac
     where
       id : x.name.id ≡ x.node.first
       id = (l.shapes.tiled x.node.first x.name x.named).numbered
+
       owner : (node_at p.nodes (whole_declarator p.nodes x.name.id).parent).label.kind ≡ kind.InitDecl
       owner =
           ap (λ i. (node_at p.nodes (whole_declarator p.nodes i).parent).label.kind) id
           ∙ (ap (λ (w : Node). (node_at p.nodes w.parent).label.kind) x.whole
           ∙ (ap (λ i. (node_at p.nodes i).label.kind) x.below ∙ (ap (λ (w : Node). w.label.kind) (found_at p.nodes n m e) ∙ same)))
+
       here : (before : List Name) → list_any (λ (e : Name). e.node == x.node.first) (names_by p.nodes p.scopes before x.name x.name.label.kind) ≡ true
       here before =
           let whole = whole_declarator p.nodes x.name.id in
@@ -91,20 +93,26 @@ module _ (cat : ℕ → Category) (p : Places) (l : AreLinked cat p.nodes) (plac
     where
       js : List Judgement
       js = take n (judgements_at p)
+
       x : InitName cat p.nodes n m
       x = init_name cat p.nodes l n m e same
+
       first : kid m 0 ≡ x.place
       first = ap (λ o. unwrap_or o 0) x.is
+
       type : Has (type_at js x.place)
       type =
           let k = kid_has cat p l.shapes n m e before 0 x.place x.is in
           has_its_type m.label.kind (kind_at p.nodes x.place) (cat x.place) (judgement_at js x.place) (ap₂ has_type same x.category) k.form
+
       name : Has (name_of p x.node.first)
       name = name_there n m e same x
+
       second : (ks : List ℕ) (j : ℕ) → list_all of.is_initial (of.rest (map cat ks)) ≡ true → slice_get ks 1 ≡ Some j → of.is_initial (cat j) ≡ true
       second (a ∷ b ∷ ks) j e at = ap (λ i. of.is_initial (cat i)) (sym (some_same at)) ∙ (of.apart e).0
       second (a ∷ []) j e at = absurd (cc at)
       second [] j e at = absurd (cc at)
+
       part : has_kid m 1 ≡ true → Has (part_for p js (is_static name.value.entity) false type.value (kid m 1))
       part has =
           let there = has_at m.kids 1 has in
@@ -138,12 +146,16 @@ module _ (cat : ℕ → Category) (p : Places) (l : AreLinked cat p.nodes) (plac
     where
       js : List Judgement
       js = take n (judgements_at p)
+
       static : Bool
       static = is_static_name (init_around p m)
+
       own : m.id ≡ n
       own = (l.shapes.tiled n m e).numbered
+
       here : (i : ℕ) → i < length m.kids → slice_get m.kids i ≡ Some (kid m i)
       here i lt = let there = slice_get-get_or m.kids i 0 lt in there ∙ ap (λ o. Some (unwrap_or o 0)) (sym there)
+
       text : (i j : ℕ) → i < length m.kids → slice_get m.kids i ≡ Some j → (k : Kid p.nodes n j) (u : CType) → part_of p (layouts js) m i t ≡ Some u
           → kind_at p.nodes j ≡ kind.Str → judgement_at js j ≡ means fills_array → is_text_array u ≡ true
       text i j lt there k u pt string fill =
@@ -177,6 +189,7 @@ module _ (cat : ℕ → Category) (p : Places) (l : AreLinked cat p.nodes) (plac
             where
               differ : (a b : ℕ) → a < b → (a == b) ≡ false
               differ a b lt = grind (arith, nat_tests, lt)
+
       part : (i : ℕ) → i < length m.kids → (u : CType) → part_of p (layouts js) m i t ≡ Some u → Has (part_for p js static (is_scalar t) u (kid m i))
       part i lt u pt =
           let there = here i lt in

@@ -86,6 +86,7 @@ module _ (cat : ℕ → Category) (ns : List Node) (l : AreLinked cat ns) where
                       let node : q.parent ≡ m = some_same (sym q.at ∙ (ap (λ i. slice_get ns i) k.below ∙ e)) in
                       let first = ap (λ (y : Node). y.first) node in
                       omega (arith, up, first)
+
               cases : (k : KidOver ns n j) → Inside k.place k.node.first j x → (j < k.place) ⊎ (k.place ≤ j) → x.parent ≤ n
               cases k r (inl lt) = let p = r.parent lt in let less = k.less in omega (arith, p, less)
               cases k r (inr ge) =
@@ -170,33 +171,49 @@ module _ (cat : ℕ → Category) (ns : List Node) (l : AreLinked cat ns) where
       let tile = l.shapes.tiled n m e in
       let k = kid_at ns m.first n n m.kids 0 first.place tile.kids first.is in
       record {
-        place = first.place; is = first.is; node = k.3.node; at = k.3.at; less = k.2; below = k.3.below; category = own;
-        name = (low_of k.3.node k.3.at).node; named = (low_of k.3.node k.3.at).at; ident = ident k.3.node k.3.at;
+        place = first.place;
+        is = first.is;
+        node = k.3.node;
+        at = k.3.at;
+        less = k.2;
+        below = k.3.below;
+        category = own;
+        name = (low_of k.3.node k.3.at).node;
+        named = (low_of k.3.node k.3.at).at;
+        ident = ident k.3.node k.3.at;
         whole = whole k.3.node k.3.at k.2 k.3.below;
       }
     where
       fit : get_or (map cat m.kids) 0 no_category ≡ category.declarator
       fit = (of.of_initializer m.label.text (map cat m.kids) (ap (λ k. kids_fit k m.label.text (map cat m.kids)) (sym same) ∙ (l.shapes.shaped n m e).kids)).0
+
       first : At cat m.kids 0 (λ c. of.is_declarator_only c)
       first = at_index cat m.kids 0 (λ c. of.is_declarator_only c) refl (ap of.is_declarator_only fit)
+
       own : cat first.place ≡ category.declarator
       own = of.only_declarator (cat first.place) first.passes
+
       low_of : (d : Node) → slice_get ns first.place ≡ Some d → Lowest cat ns first.place d
       low_of d at = l.lowest first.place d at
+
       ident : (d : Node) (at : slice_get ns first.place ≡ Some d) → (low_of d at).node.label.kind ≡ kind.Ident
       ident d at = name_kind _ (ap (λ c. begins_with c (low_of d at).node.label.kind) (sym own) ∙ (low_of d at).begins)
+
       whole : (d : Node) → slice_get ns first.place ≡ Some d → first.place < n → d.parent ≡ n → whole_declarator ns d.first ≡ d
       whole d at less below = by (compare first.place w.place)
         where
           w : NameIs cat ns l d.first
           w = whole_of cat ns l d.first (low_of d at).node (low_of d at).at (ident d at)
+
           late : first.place ≤ w.place
           late =
               let shape = l.shapes.shaped first.place d at in
               let declares = kind_declares d.label.kind d.label.text (map cat d.kids) (ap of.is_declarator_only (sym shape.category ∙ own)) in
               w.latest first.place d at (both ((Decides-eqb d.first d.first).1 refl) declares)
+
           own_first : d.first ≡ m.first
           own_first = first_begins cat ns l n m d first.place (l.shapes.tiled n m e).kids first.is at
+
           not_this : w.place ≡ n → ⊥
           not_this h =
               let own_kind = ap (λ k. category_by k m.label.text (map cat m.kids)) same in
@@ -204,6 +221,7 @@ module _ (cat : ℕ → Category) (ns : List Node) (l : AreLinked cat ns) where
             where
               init_declares : category_by m.label.kind m.label.text (map cat m.kids) ≡ category_by kind.InitDecl m.label.text (map cat m.kids) → of.is_declarator_only (category_by m.label.kind m.label.text (map cat m.kids)) ≡ false
               init_declares h = ap of.is_declarator_only h
+
           by : (first.place < w.place) ⊎ (w.place ≤ first.place) → whole_declarator ns d.first ≡ d
           by (inr le) =
               let equal : w.place ≡ first.place = let a = late in omega (arith, le, a) in
@@ -212,18 +230,21 @@ module _ (cat : ℕ → Category) (ns : List Node) (l : AreLinked cat ns) where
             where
               wfirst : w.whole.node.first ≡ d.first
               wfirst = w.first
+
               up : n ≤ w.place
               up =
                   let d_low = first_low cat ns l first.place d at in
                   let f = wfirst in
                   let r = (inside cat ns l w.place w.whole.node w.whole.at first.place d at (omega (arith, d_low, f)) (omega (arith, lt))).parent lt in
                   omega (arith, r, below)
+
               strictly : n < w.place
               strictly = cases (compare n w.place)
                 where
                   cases : (n < w.place) ⊎ (w.place ≤ n) → n < w.place
                   cases (inl h) = h
                   cases (inr h) = let u = up in absurd (not_this (omega (arith, h, u)))
+
               outer : (suc n ≡ length ns) ⊎ Linked ns n m → ⊥
               outer (inl last) = let there = bound ns w.place w.whole.node w.whole.at in let s = strictly in absurd (omega (arith, there, s, last))
               outer (inr q) =

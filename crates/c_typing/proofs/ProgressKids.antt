@@ -36,14 +36,16 @@ module _ (all : List Node) (known : List Category) where
   roots_tile first parent none b = omega arith
   roots_tile first parent (tree label kids rest) b =
       let k = first + size kids in
-      let more = roots_tile (k + 1) parent rest (rest_between all known first parent label kids rest b) in
-      (record {
-        node = by_place.own all known first parent label kids rest b;
-        at = own_there all known first parent label kids rest b;
-        below = refl;
-        begins = refl;
-        behind = omega arith;
-      }, subst (λ stop. KidsFrom all (k + 1) stop parent (numbers (roots (k + 1) rest))) (omega arith) more)
+      let more = roots_tile (k + 1) parent rest (rest_between all known first parent label kids rest b) in (
+        record {
+          node = by_place.own all known first parent label kids rest b;
+          at = own_there all known first parent label kids rest b;
+          below = refl;
+          begins = refl;
+          behind = omega arith;
+        },
+        subst (λ stop. KidsFrom all (k + 1) stop parent (numbers (roots (k + 1) rest))) (omega arith) more,
+      )
 
   all_tile : (first parent : ℕ) (f : Forest) → Between all known first parent f → AllFrom (Tiled all) first (nodes_of first parent f)
   all_tile first parent none b = tt

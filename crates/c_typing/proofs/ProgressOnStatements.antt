@@ -94,6 +94,7 @@ module _ (cat : ℕ → Category) (p : Places) (js : List Judgement) (n : ℕ) (
           let other = ap (λ c. of.is_other c) e ∙ of.other_kind own a.text a.below plain in
           let x = form.typed kind.For own (cat j) (judgement_at js j) (of.part_expression (cat j) t other) refl f in
           record { value = Some (value_of x.typing); is = ap (λ o. option_map (λ x. Some (value_of x)) o) x.is }
+
       by : (own : SynKind) → fits kind.For own (cat j) (judgement_at js j) ≡ true → cat j ≡ category_by own a.text a.below → Has (part_by js j own)
       by kind.Empty f e = record { value = None; is = refl }
       by kind.Declaration f e = no (sym (ap is_for_part e) ∙ t)
@@ -108,6 +109,7 @@ module _ (cat : ℕ → Category) (p : Places) (js : List Judgement) (n : ℕ) (
           let other = ap (λ c. of.is_other c) e ∙ of.other_kind own a.text a.below plain in
           let x = form.typed kind.For own (cat j) (judgement_at js j) (of.first_expression (cat j) t other) refl f in
           record { value = drop_expr (value_of x.typing).code; is = ap (λ o. option_map (λ x. drop_expr (value_of x).code) o) x.is }
+
       by : (own : SynKind) → fits kind.For own (cat j) (judgement_at js j) ≡ true → cat j ≡ category_by own a.text a.below → Has (first_by js j own)
       by kind.Empty f e = record { value = empty_statement; is = refl }
       by kind.Declaration f e =

@@ -69,9 +69,30 @@ texts =
 
 each_compound : EachOf Compound texts
 each_compound = (
-    (λ h. absurd (true≢false h)), ((λ h. record { value = _; is = refl }), ((λ h. record { value = _; is = refl }), ((λ h. record { value = _; is = refl }),
-    ((λ h. record { value = _; is = refl }), ((λ h. record { value = _; is = refl }), ((λ h. record { value = _; is = refl }), ((λ h. record { value = _; is = refl }),
-    ((λ h. record { value = _; is = refl }), ((λ h. record { value = _; is = refl }), ((λ h. record { value = _; is = refl }), tt)))))))))))
+  (λ h. absurd (true≢false h)),
+  (
+    (λ h. record { value = _; is = refl }),
+    (
+      (λ h. record { value = _; is = refl }),
+      (
+        (λ h. record { value = _; is = refl }),
+        (
+          (λ h. record { value = _; is = refl }),
+          (
+            (λ h. record { value = _; is = refl }),
+            (
+              (λ h. record { value = _; is = refl }),
+              (
+                (λ h. record { value = _; is = refl }),
+                ((λ h. record { value = _; is = refl }), ((λ h. record { value = _; is = refl }), ((λ h. record { value = _; is = refl }), tt))),
+              ),
+            ),
+          ),
+        ),
+      ),
+    ),
+  ),
+)
 
 pub of_assignment : (text : List ℕ) → is_assignment text ≡ true → Compound text
 of_assignment text e = each_of Compound texts text each_compound e

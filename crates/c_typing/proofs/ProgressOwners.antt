@@ -145,6 +145,7 @@ module _ (cat : ℕ → Category) (ns : List Node) (l : AreLinked cat ns) where
     where
       own : cat n ≡ category.init_declarator
       own = (l.shapes.shaped n m e).category ∙ ap (λ k. category_by k m.label.text (map cat m.kids)) same
+
       by : (suc n ≡ length ns) ⊎ Linked ns n m → (kid (node_at ns m.parent) 0 < m.first) × Before cat ns n (kid (node_at ns m.parent) 0) is_specs
       by (inl last) = no (ap is_init_declarator (sym (l.root n m e last) ∙ own))
       by (inr q) =
@@ -163,6 +164,7 @@ module _ (cat : ℕ → Category) (ns : List Node) (l : AreLinked cat ns) where
       from q j same b =
           let owner = ap (λ (o : Node). (specs_of ns o).id) (parent_is n m e q) in
           subst (λ k. Before cat ns n k is_specs) (sym (owner ∙ (ap (λ k. (node_at ns k).id) same ∙ id_of n j is_specs b))) b
+
       by : (suc n ≡ length ns) ⊎ Linked ns n m → Before cat ns n (specs_of ns (parent_of ns m.id)).id is_specs
       by (inl last) = no (sym (ap is_part (l.root n m e last)) ∙ part)
       by (inr q) =

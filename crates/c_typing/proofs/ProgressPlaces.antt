@@ -69,6 +69,7 @@ are_linked tokens t derived = record {
   where
     long : length (nodes t) ≡ size t.kids + 1
     long = let l = by_place.length-nodes 0 (size (one t)) (one t) in omega (arith, l)
+
     link : (n : ℕ) (m : Node) → slice_get (nodes t) n ≡ Some m → (suc n ≡ length (nodes t)) ⊎ Linked (nodes t) n m
     link n m e = by (compare n (size t.kids))
       where
@@ -77,6 +78,7 @@ are_linked tokens t derived = record {
             let q = node_has_parent tokens t derived n m e lt in
             inr (record { parent = q.parent; at = q.found; index = length q.front; among = ap (λ ks. slice_get ks (length q.front)) q.among ∙ at_seam q.front n q.back })
         by (inr ge) = let l = long in let w = within (nodes t) n m e in inl (omega (arith, l, w, ge))
+
     at_root : (n : ℕ) (m : Node) → slice_get (nodes t) n ≡ Some m → suc n ≡ length (nodes t) → category_at t n ≡ category.unit
     at_root n m e last =
         let same : n ≡ 0 + size t.kids = let l = long in omega (arith, l, last) in
@@ -114,6 +116,7 @@ kids_apart all start stop n (k ∷ ks) zero (suc j) a b m e lt at bt mt =
   where
     node_same : {x y : Node} → Some x ≡ Some y → x ≡ y
     node_same h = cc h
+
     number_same : {x y : ℕ} → Some x ≡ Some y → x ≡ y
     number_same h = cc h
 kids_apart all start stop n (k ∷ ks) (suc i) (suc j) a b m e lt at bt mt = kids_apart all (k + 1) stop n ks i j a b m e.1 (omega (arith, lt)) at bt mt

@@ -66,6 +66,7 @@ module _ (cat : ℕ → Category) (p : Places) (l : AreLinked cat p.nodes) (plac
     where
       js : List Judgement
       js = take n (judgements_at p)
+
       entity : IsDeclaredName cat p.nodes e → e.behind < n → (k : Entity) → e.entity ≡ k → Known js e k
       entity de lt typedef_name same = tt
       entity de lt enumerator same = absurd (enumerates de.entity same)
@@ -76,6 +77,7 @@ module _ (cat : ℕ → Category) (p : Places) (l : AreLinked cat p.nodes) (plac
       entity de lt static_object same = typed_name cat p l n e before lt de
       entity de lt automatic same = typed_name cat p l n e before lt de
       entity de lt (parameter i) same = typed_name cat p l n e before lt de
+
       by : Stands cat p.nodes e → e.behind < n → Known js e e.entity
       by (inl en) lt = subst (λ k. Known js e k) (sym en.entity) (valued_name cat p l n e before lt en)
       by (inr de) lt = entity de lt e.entity refl

@@ -42,11 +42,13 @@ part_front p b i xs ys t u e = by (is_text_alone p t b) e
         → option_and_then (λ (l : Layout). option_map (λ (f : Field). f.type) (slice_get l.fields i)) q ≡ Some u
     in_struct k None q h e = absurd (cc e)
     in_struct k (Some l) q h e = ap (λ o. option_and_then (λ (l : Layout). option_map (λ (f : Field). f.type) (slice_get l.fields i)) o) (h l refl) ∙ e
+
     of_type : (t : CType) → part_type xs t i ≡ Some u → part_type (xs ++ ys) t i ≡ Some u
     of_type (struct k) e = in_struct k (layout_of xs k) (layout_of (xs ++ ys) k) (λ l f. found_front (λ l. l.number == k) xs ys l f) e
     of_type (array t n) e = e
     of_type (unsized t) e = e
     of_type _ e = e
+
     by : (b : Bool) → (if b then Some t else part_type xs t i) ≡ Some u → (if b then Some t else part_type (xs ++ ys) t i) ≡ Some u
     by true e = e
     by false e = of_type t e

@@ -39,12 +39,14 @@ last_cases test (x ∷ ns) = by (test x) refl (last_cases test ns)
     shift : (b : Bool) → test x ≡ b → (o : Option Node) → last_or o (filter test (x ∷ ns)) ≡ last_or (if b then Some x else o) (filter test ns)
     shift true e o = ap (λ b. last_or o (if b then x ∷ filter test ns else filter test ns)) e
     shift false e o = ap (λ b. last_or o (if b then x ∷ filter test ns else filter test ns)) e
+
     later : (b : Bool) → test x ≡ b → LastOf test ns → LastOf test (x ∷ ns)
     later b e r = record { node = r.node; place = suc r.place; at = r.at; passes = r.passes; latest = latest; is = λ o. shift b e o ∙ r.is (if b then Some x else o) }
       where
         latest : (j : ℕ) (y : Node) → slice_get (x ∷ ns) j ≡ Some y → test y ≡ true → j ≤ suc r.place
         latest zero y at t = omega arith
         latest (suc j) y at t = let l = r.latest j y at t in omega (arith, l)
+
     by : (b : Bool) → test x ≡ b → NoneOf test ns ⊎ LastOf test ns → NoneOf test (x ∷ ns) ⊎ LastOf test (x ∷ ns)
     by b e (inr r) = inr (later b e r)
     by true e (inl n) = inr (record { node = x; place = 0; at = refl; passes = e; latest = latest; is = λ o. shift true e o ∙ n.is (Some x) })
@@ -182,12 +184,16 @@ module _ (cat : ℕ → Category) (ns : List Node) (l : AreLinked cat ns) where
     where
       first_own : m.first ≡ i
       first_own = leaf_first i m e same
+
       r : LastOf (in_declarator i) ns
       r = last_of (in_declarator i) ns i m e (both ((Decides-eqb m.first i).1 first_own) (ap is_declarator same))
+
       tests : ((r.node.first == i) ≡ true) × (is_declarator r.node.label.kind ≡ true)
       tests = split {p = r.node.first == i} r.passes
+
       first : r.node.first ≡ i
       first = (Decides-eqb r.node.first i).0 tests.0
+
       own : cat r.place ≡ category.declarator
       own =
           let low = l.lowest r.place r.node r.at in
@@ -195,12 +201,14 @@ module _ (cat : ℕ → Category) (ns : List Node) (l : AreLinked cat ns) where
           let begins : begins_with (cat r.place) kind.Ident ≡ true = ap (λ k. begins_with (cat r.place) k) (sym (ap (λ (x : Node). x.label.kind) node ∙ same)) ∙ low.begins in
           let shape = l.shapes.shaped r.place r.node r.at in
           begins_declarator (cat r.place) begins (ap is_init_declarator shape.category ∙ kind_no_init r.node.label.kind r.node.label.text (map cat r.node.kids) tests.1)
+
       by : (suc r.place ≡ length ns) ⊎ Linked ns r.place r.node → not (is_declarator (kind_at ns r.node.parent)) ≡ true
       by (inl last) = no (sym (ap is_part (l.root r.place r.node r.at last)) ∙ ap is_part own)
       by (inr q) = cases (is_declarator q.parent.label.kind) refl q.index q.among
         where
           up : kind_at ns r.node.parent ≡ q.parent.label.kind
           up = ap (λ (x : Node). x.label.kind) (found_at ns r.node.parent q.parent q.at)
+
           cases : (b : Bool) → is_declarator q.parent.label.kind ≡ b → (j : ℕ) → slice_get q.parent.kids j ≡ Some r.place → not (is_declarator (kind_at ns r.node.parent)) ≡ true
           cases false same_kind j at = ap (λ k. not (is_declarator k)) up ∙ ap not same_kind
           cases true same_kind zero at =

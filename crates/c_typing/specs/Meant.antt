@@ -1,22 +1,21 @@
 -- What the nodes of a tree mean where no rule is broken and no size is above the limit: each has a meaning, with a form by its
 -- category. C99 6.7 to 6.9.
-use Rattle.std.specs.Prelude.{◌≡◌, ℕ, ◌<◌, ◌≤◌, Bool, true, false, not, List, Option, Some, find, position, ◌==◌, Contains}
-use Rattle.std.specs.Option.{is_some}
+use Rattle.std.specs.Prelude.{◌≡◌, ℕ, ◌<◌, ◌≤◌, Bool, true, false, not, List, Option, Some}
 use Rattle.c_syntax.specs.declared.kind.SynKind.{SynKind}
 use Rattle.c_syntax.specs.declared.kind.SynKind.TheVariants as kind
 use Rattle.c_syntax.specs.Trees.{Tree, one}
 use Rattle.c_syntax.specs.Tables.{size}
 use Rattle.c_types.specs.declared.kind.TheConstants.{MAX_SIZE}
 use Rattle.c_types.specs.declared.tree.Unit.{Unit as Whole}
-use Rattle.c_typing.specs.Types.{CType, integer, int, struct, is_function, has_size}
-use Rattle.c_typing.specs.Places.{Node, nodes, is_whole, holds}
-use Rattle.c_typing.specs.Names.{Name, places, objects_of, automatics_in}
-use Rattle.c_typing.specs.Judgements.{Meaning, itself, a_type, a_struct, members, enumerates, steps, declares, expresses, fills_array, initial, initialized, performs, labels, defines, Judgement, means, Form, callee, judgement_at, layouts}
+use Rattle.c_typing.specs.Types.{CType, is_function}
+use Rattle.c_typing.specs.Places.{Node, nodes, is_whole}
+use Rattle.c_typing.specs.Names.{Name, places, denoted, is_typedef}
+use Rattle.c_typing.specs.Judgements.{Meaning, itself, a_type, a_struct, members, enumerates, steps, declares, expresses, fills_array, initial, initialized, performs, labels, defines, Judgement, means, Form, callee, judgement_at}
 use Rattle.c_typing.specs.Expressions.{type_of_name}
 use Rattle.c_typing.specs.Shapes as category
 use Rattle.c_typing.specs.Shapes.{Category}
 use Rattle.c_typing.specs.ShapesOfNodes.{category_at}
-use Rattle.c_typing.specs.Typing.{judgements_at, Breaks, TooBig, IsTyped}
+use Rattle.c_typing.specs.Typing.{judgements_at, is_there, Breaks, TooBig, IsTyped}
 
 -- ---- forms of meanings
 
@@ -121,18 +120,20 @@ pub record IsMeant (t : Tree) (n : ℕ) (m : Node) : Type 0 where
   pub judged : judgement_at (judgements t) n ≡ means meaning
   pub form : has_form (category_at t n) m.label.kind (is_whole (nodes t) m) meaning ≡ true
 
--- an object has a type, and the type has a size
-pub record IsSized (t : Tree) (e : Name) : Type 0 where
+-- ---- what the unit is put together from
+
+-- an object has a type
+pub record HasType (t : Tree) (e : Name) : Type 0 where
   pub type : CType
   pub typed : type_of_name (judgements t) e ≡ Some type
-  pub has : has_size (layouts (judgements t)) type ≡ true
 
--- an automatic object stands in a function that is defined, and has its place among the automatic objects there
-pub record IsLocal (t : Tree) (e : Name) : Type 0 where
-  pub owner : Node
-  pub around : find (λ f. holds f e.node) (places t).functions ≡ Some owner
-  pub place : ℕ
-  pub placed : position (λ (a : Name). a.node == e.node) (automatics_in (places t) owner) ≡ Some place
+-- a name in an expression names an object, a function or an enumerator; where it is a function or a static object, that one is
+-- defined, or is a function of the library
+pub record IsUsed (t : Tree) (m : Node) : Type 0 where
+  pub name : Name
+  pub denotes : denoted (places t).names m.id m.label.text ≡ Some name
+  pub is_value : is_typedef name.entity ≡ false
+  pub is_defined : is_there (places t) name name.entity ≡ true
 
 -- ---- one typing
 

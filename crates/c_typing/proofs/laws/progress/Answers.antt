@@ -1,5 +1,6 @@
 use Rattle.c_typing.proofs.ProgressMeant.{meant, sound}
 use Rattle.c_typing.proofs.BoundsTree.{one_typing}
+use Rattle.c_typing.proofs.ProgressUsed.{object_typed, used}
 use Rattle.c_typing.proofs.laws.progress.Goals as goal
 
 pub returns-clause-one_typing : goal.returns-clause-one_typing
@@ -10,3 +11,9 @@ returns-clause-alone c t u typed = sound t u typed
 
 pub returns-clause-meant : goal.returns-clause-meant
 returns-clause-meant c tokens t n m derived quiet e = meant tokens t n m derived quiet e
+
+pub returns-clause-objects : goal.returns-clause-objects
+returns-clause-objects c tokens t k e derived quiet at = object_typed tokens t k e derived quiet at
+
+pub returns-clause-uses : goal.returns-clause-uses
+returns-clause-uses c t n m quiet e same = used t n m quiet e same

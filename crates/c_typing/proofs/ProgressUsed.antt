@@ -1,0 +1,107 @@
+-- What the unit of a tree is put together from is there: the types of objects, and what names in expressions name.
+use Rattle.std.proofs.Common.{◌≡◌, ℕ, zero, suc, ◌+◌, ◌<◌, ◌≤◌, Bool, true, false, not, ◌&&◌, List, [], ◌∷◌, ◌++◌, length, map, Option, Some, None, refl, sym, ap, ap₂, ◌∙◌, subst, arith, true≢false, ◌⊎◌, inl, inr}
+use Rattle.std.specs.Prelude.{slice_get, take, unwrap_or, flat_map, filter, if◌then◌else◌, ◌==◌}
+use Rattle.c_lexer.specs.declared.token.Token.{Token}
+use Rattle.c_syntax.specs.declared.kind.SynKind.{SynKind}
+use Rattle.c_syntax.specs.declared.kind.SynKind.TheVariants as kind
+use Rattle.c_syntax.specs.Trees.{Tree}
+use Rattle.c_grammar.specs.Derivation.{IsTreeOf}
+use Rattle.c_typing.specs.Places.{Node, nodes, kind_at}
+use Rattle.c_typing.specs.Names.{Entity, Name, Places, places, denoted, is_typedef, typedef_name, is_static, earlier, is_defined_object, objects_of}
+use Rattle.c_typing.specs.Judgements.{Fault, Judgement, judgement_at, type_at, faults_in}
+use Rattle.std.specs.Option.{is_some}
+use Rattle.c_typing.specs.Types.{CType}
+use Rattle.c_typing.proofs.ProgressForms.{Has, has_type, has_its_type}
+use Rattle.c_typing.proofs.ProgressDeclared.{AllNames, Stands, all_names_stand, all_filter}
+use Rattle.c_typing.specs.Expressions.{variable, variable_by}
+use Rattle.c_typing.specs.Rules.{broken_if}
+use Rattle.c_typing.specs.Typing.{judged_by, judgements_at, faults, place_faults_by, place_faults, is_there, use_faults}
+use Rattle.c_typing.specs.ShapesOfNodes.{category_at}
+use Rattle.c_typing.specs.Meant.{judgements, HasType, IsUsed}
+use Rattle.c_typing.proofs.ProgressBase.{judged_at}
+use Rattle.c_typing.proofs.ProgressAll.{fronts_empty, calm_at, no_fault, all_meant}
+use Rattle.c_typing.proofs.ProgressPlaces.{AreLinked, are_linked, within}
+use Rattle.c_typing.proofs.ProgressInitials.{specials}
+
+no : {A : Type 0} → false ≡ true → A
+no e = absurd (true≢false (sym e))
+
+-- where no node has a fault, this one has none
+node_empty : (f : Node → List Fault) (ns : List Node) (n : ℕ) (m : Node) → flat_map f ns ≡ [] → slice_get ns n ≡ Some m → f m ≡ []
+node_empty f [] n m e at = absurd (cc at)
+node_empty f (x ∷ ns) zero m e at = same at
+  where
+    same : Some x ≡ Some m → f m ≡ []
+    same h = let equal : x ≡ m = cc h in subst (λ (y : Node). f y ≡ []) equal (fronts_empty (f x) (flat_map f ns) e).0
+node_empty f (x ∷ ns) (suc n) m e at = node_empty f ns n m (fronts_empty (f x) (flat_map f ns) e).1 at
+
+not_broken : (b : Bool) (r n : ℕ) → broken_if (not b) r n ≡ [] → b ≡ true
+not_broken true r n e = refl
+not_broken false r n e = absurd (cc e)
+
+record Denotes (p : Places) (m : Node) : Type 0 where
+  name : Name
+  is : denoted p.names m.id m.label.text ≡ Some name
+  value : is_typedef name.entity ≡ false
+
+denotes : (p : Places) (js : List Judgement) (m : Node) → faults_in (judged_by p js m kind.Var) ≡ [] → Denotes p m
+unfolding judged_by variable variable_by
+denotes p js m calm = by (denoted p.names m.id m.label.text) refl calm
+  where
+    entity : (e : Name) (k : Entity) → faults_in (variable_by p js m e k) ≡ [] → is_typedef k ≡ false
+    entity e typedef_name h = absurd (cc h)
+    entity e _ h = refl
+    by : (o : Option Name) → denoted p.names m.id m.label.text ≡ o → faults_in (variable p js m o) ≡ [] → Denotes p m
+    by None same h = absurd (cc h)
+    by (Some e) same h = record { name = e; is = same; value = entity e e.entity h }
+
+pub used : (t : Tree) (n : ℕ) (m : Node) → faults t ≡ [] → slice_get (nodes t) n ≡ Some m → m.label.kind ≡ kind.Var → IsUsed t m
+used t n m quiet e same =
+    let p = places t in
+    let js = judgements_at p in
+    let none = no_fault t quiet in
+    let calm = sym (ap faults_in (judged_at p p.nodes n m e)) ∙ calm_at js n none.by_node in
+    let d = denotes p (take n js) m (ap (λ k. faults_in (judged_by p (take n js) m k)) (sym same) ∙ calm) in
+    let here = node_empty (λ (node : Node). place_faults_by p node node.label.kind) p.nodes n m none.by_place e in
+    let uses : use_faults p m (denoted p.names m.id m.label.text) ≡ [] = ap (λ k. place_faults_by p m k) (sym same) ∙ here in
+    let there = not_broken (is_there p d.name d.name.entity) 17 m.id (ap (λ o. use_faults p m o) (sym d.is) ∙ uses) in
+    record { name = d.name; denotes = d.is; is_value = d.value; is_defined = there }
+
+-- ---- objects
+
+at_name : (P : Name → Type 0) (es : List Name) (k : ℕ) (e : Name) → AllNames P es → slice_get es k ≡ Some e → P e
+at_name P [] k e h at = absurd (cc at)
+at_name P (x ∷ es) zero e h at = same at
+  where
+    same : Some x ≡ Some e → P e
+    same f = let equal : x ≡ e = cc f in subst (λ (y : Name). P y) equal h.0
+at_name P (x ∷ es) (suc k) e h at = at_name P es k e h.1 at
+
+static_first : (a b c : Bool) → (a && b && c) ≡ true → a ≡ true
+static_first true b c e = refl
+static_first false b c e = no e
+
+pub object_typed : (tokens : List Token) (t : Tree) (k : ℕ) (e : Name) → IsTreeOf tokens t → faults t ≡ [] → slice_get (objects_of (places t)) k ≡ Some e → HasType t e
+object_typed tokens t k e derived quiet at =
+    let f = at_name (λ e. Stands (category_at t) (nodes t) e × (is_object e ≡ true)) (objects_of p) k e
+    (all_filter (Stands (category_at t) (nodes t)) is_object p.names (all_names_stand (category_at t) (nodes t) l p.scopes)) at in
+    by f.0 (static_first (is_static e.entity) (length (earlier p e) == 0) (is_defined_object p e) f.1)
+  where
+    p : Places
+    p = places t
+    l : AreLinked (category_at t) (nodes t)
+    l = are_linked tokens t derived
+    is_object : Name → Bool
+    is_object e = is_static e.entity && length (earlier p e) == 0 && is_defined_object p e
+    named : (o : Option CType) → Has (type_at (judgements t) e.behind) → Has (if is_some o then o else type_at (judgements t) e.behind)
+    named None h = h
+    named (Some u) h = record { value = u; is = refl }
+    by : Stands (category_at t) (nodes t) e → is_static e.entity ≡ true → HasType t e
+    by (inl en) static = no (ap is_static (sym en.entity) ∙ static)
+    by (inr de) static =
+        let w = de.whole in
+        let meant = all_meant (category_at t) p l.shapes (no_fault t quiet).by_node (specials (category_at t) p l (record { names = refl; functions = refl })) e.behind w.node w.at in
+        let outer = kind_at (nodes t) w.node.parent in
+        let u = has_its_type outer w.node.label.kind (category_at t e.behind) (judgement_at (judgements t) e.behind) (ap (λ c. has_type outer c) w.is ∙ w.whole) meant in
+        let n = named (type_at (judgements t) e.owner) (record { value = u.value; is = u.is }) in
+        record { type = n.value; typed = n.is }
