@@ -1,19 +1,18 @@
 -- The faults of specs, declarators and initializers name rules and nodes that are there.
-use Rattle.std.proofs.Common.{◌≡◌, ℕ, zero, suc, ◌+◌, ◌-◌, ◌*◌, ◌^◌, ◌<◌, Bool, true, false, not, ◌&&◌, ◌||◌, List, [], ◌∷◌, ◌++◌, length, map, Option, Some, None, refl, sym, ap, ◌∙◌, subst, arith}
-use Rattle.std.specs.Prelude.{slice_get, unwrap_or, if◌then◌else◌, codes, ◌==◌, flat_map, filter, filter_map, option_map}
+use Rattle.std.proofs.Common.{◌≡◌, ℕ, zero, suc, ◌-◌, ◌*◌, ◌^◌, ◌<◌, Bool, true, false, not, ◌||◌, List, [], ◌∷◌, ◌++◌, length, map, Option, Some, None, refl}
+use Rattle.std.specs.Prelude.{slice_get, unwrap_or, if◌then◌else◌, ◌==◌, filter, filter_map}
 use Rattle.std.specs.Option.{is_some}
-use Rattle.std.specs.List.{range_with_len}
 use Rattle.c_syntax.specs.declared.kind.SynKind.{SynKind}
 use Rattle.c_syntax.specs.declared.kind.SynKind.TheVariants as kind
 use Rattle.c_grammar.specs.Vocabulary.{is_type_word, is_storage_word}
-use Rattle.c_typing.specs.Types.{CType, void, function, array, unsized, struct, integer, int, is_array, is_struct, is_scalar, is_unsized, is_text_array, Field, Layout, has_size, size_of}
-use Rattle.c_typing.specs.Places.{Node, nowhere, kid, has_kid, other_kids, node_at, kind_at, text_at, is_word, parent_of, index_in, specs_of, is_whole, next_to_name, own_takes}
-use Rattle.c_typing.specs.Names.{Places, Name, Entity, typedef_name, function_name, static_object, automatic, parameter, enumerator, is_static, is_typedef, denoted, tag_of, Tag, name_of, function_number}
-use Rattle.c_typing.specs.Judgements.{Fault, Constant, number, Typing, Judgement, means, waits, Meaning, itself, a_type, initialized, steps, declares, defines, initial, Step, to_pointer, of_array, of_unsized, of_function, PlacedStep, verdict, given, besides, all_of, typing_at, code_at, type_at, steps_at, judgement_at, layouts}
-use Rattle.c_typing.specs.Rules.{not_constant, out_of_range, bad_array_length, bad_main, local_array_or_struct, bad_storage_class, absent_length, many_parameters, bad_parameter, unknown_name, stands_twice, bad_result, incomplete_type, size_fault, not_a_function, declared_twice, bad_library_name, is_refused, broken_if}
+use Rattle.c_typing.specs.Types.{CType, void, integer, int, is_unsized, Field, Layout, has_size, size_of}
+use Rattle.c_typing.specs.Places.{Node, kid, has_kid, other_kids, kind_at, text_at, is_word, parent_of, index_in, specs_of, is_whole, own_takes}
+use Rattle.c_typing.specs.Names.{Places, Name, Entity, typedef_name, function_name, static_object, automatic, parameter, enumerator, is_typedef, denoted, tag_of, Tag, name_of}
+use Rattle.c_typing.specs.Judgements.{Fault, Typing, Judgement, means, Meaning, itself, a_type, steps, Step, to_pointer, of_array, of_unsized, of_function, PlacedStep, verdict, all_of, typing_at, type_at, steps_at, judgement_at, layouts}
+use Rattle.c_typing.specs.Rules.{not_constant, out_of_range, bad_array_length, bad_main, local_array_or_struct, bad_storage_class, many_parameters, bad_parameter, unknown_name, incomplete_type, not_a_function, declared_twice, bad_library_name, broken_if}
 use Rattle.c_typing.specs.Expressions.{type_of_name, word_of_enumerator}
-use Rattle.c_typing.specs.Declarators.{typedef_type, spec_word, spec_meaning, is_storage, place_of_specs, specs, said_type, members_of, struct_body, struct_specifier, tag_faults, member_faults, layout, is_known_enum, enum_specifier, enumerator_faults, enumerator_after, enumerator_value, enumerator_node, Built, built, array_faults, stepped_type, stepped_from, build, adjusted, object_size, parameter_size, name_faults, declared_faults, whole_by, whole_type, declarator, with_step, pointer_declarator, is_parameter_length, is_given_by_initializer, absent_length_step, length_faults, length_step, array_declarator, function_declarator, member_at, member, parameter_node, type_name, type_before, word_in}
-use Rattle.c_typing.proofs.BoundsBase.{Proper, AllProper, ConstantIn, StepsIn, JudgedIn, both_in, rule_in, size_in, range_in, means_in, breaks_in, waits_in, verdict_in, besides_in, given_in, AllIn, typing_in, steps_in}
+use Rattle.c_typing.specs.Declarators.{typedef_type, spec_word, spec_meaning, is_storage, place_of_specs, specs, members_of, struct_body, struct_specifier, tag_faults, member_faults, is_known_enum, enum_specifier, enumerator_faults, enumerator_after, enumerator_value, enumerator_node, built, array_faults, stepped_type, stepped_from, build, object_size, parameter_size, name_faults, declared_faults, whole_by, whole_type, declarator, with_step, pointer_declarator, is_parameter_length, is_given_by_initializer, absent_length_step, length_faults, length_step, array_declarator, function_declarator, member_at, member, parameter_node, type_name, type_before, word_in}
+use Rattle.c_typing.proofs.BoundsBase.{AllProper, ConstantIn, StepsIn, JudgedIn, both_in, rule_in, size_in, range_in, means_in, breaks_in, verdict_in, besides_in, given_in, AllIn, typing_in, steps_in}
 
 -- ---- types of declarators
 

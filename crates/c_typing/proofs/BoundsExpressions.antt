@@ -1,20 +1,20 @@
 -- The faults of expressions name rules and nodes that are there.
-use Rattle.std.proofs.Common.{◌≡◌, ℕ, zero, suc, ◌+◌, ◌<◌, Bool, true, false, not, ◌&&◌, ◌||◌, List, [], ◌∷◌, ◌++◌, length, map, Option, Some, None, refl, sym, ap, ◌∙◌, subst}
+use Rattle.std.proofs.Common.{◌≡◌, ℕ, suc, ◌<◌, Bool, true, false, not, ◌||◌, List, [], ◌∷◌, ◌++◌, length, map, Option, Some, None, refl}
 use Rattle.std.specs.Prelude.{slice_get, unwrap_or, if◌then◌else◌, codes, ◌==◌}
 use Rattle.std.specs.Option.{is_some}
 use Rattle.std.specs.Str.{bytes_eq}
 use Rattle.c_types.specs.declared.tree.COp.{COp}
 use Rattle.c_types.specs.declared.tree.COp.TheVariants as op
 use Rattle.c_types.specs.Forms.{const, binary}
-use Rattle.c_typing.specs.Types.{CType, CTypes, integer, pointer, struct, function, array, is_array, is_integer, is_scalar, is_function, IntegerType, promoted, integer_of, target_of, listed, Layout, has_size, size_of, int}
+use Rattle.c_typing.specs.Types.{CType, integer, pointer, struct, function, is_array, is_integer, is_scalar, is_function, IntegerType, promoted, integer_of, target_of, listed, Layout, has_size, size_of, int}
 use Rattle.c_typing.specs.Places.{Node, kid, other_kids}
 use Rattle.c_typing.specs.Names.{object_number, local_number, Places, Name, Entity, typedef_name, function_name, static_object, automatic, parameter, enumerator}
-use Rattle.c_typing.specs.Judgements.{judgement_at, no_constant, number, value, Fault, rule, Constant, Typing, Form, in_local, in_memory, temporary, callee, Callee, Judgement, means, waits, Meaning, expresses, verdict, given, besides, all_of, layouts, typing_at}
+use Rattle.c_typing.specs.Judgements.{judgement_at, no_constant, number, value, Fault, Typing, Form, in_local, in_memory, temporary, callee, Callee, Judgement, means, verdict, given, all_of, layouts, typing_at}
 use Rattle.c_typing.specs.Conversions.{result, valued, signs, subtractive, value_of, is_castable, Operator, operator_of, result_type, choice_type, is_assignable}
-use Rattle.c_typing.specs.Constants.{part_at, operated}
-use Rattle.c_typing.specs.Rules.{is_in_local, unknown_name, incomplete_type, no_such_member, address_of_local, no_lvalue, is_lvalue, not_assignable, bad_operand, bad_conversion, wrong_number, not_a_function, function_as_value, big_struct}
-use Rattle.c_typing.specs.Expressions.{callee_of, object_typing, local_typing, minus_one, expression, word_of_enumerator, type_of_name, variable_by, variable, step_faults, prefix_step, postfix_step, element_type, element_typing, subscript_constant, subscript, argument_faults, arguments, call_code, passed, called, call_by, field_of, no_field, dot, dereferenced_struct, arrow, address_operator, dereference, sign_typing, sign_operator, not_operator, unary, measured_type, cast, operator_with, binary_by, binary_operator, conditional, comma, assignment, compound_by, before_equal, assign, can_step, is_compound, is_called, number_of_type}
-use Rattle.c_typing.proofs.BoundsBase.{AllProper, Proper, ConstantIn, JudgedIn, MeaningIn, both_in, rule_in, means_in, breaks_in, waits_in, verdict_in, besides_in, given_in, AllIn, typing_in, value_in, operated_in, chosen_in, binary_in, cast_in, part_in, element_in, address_in_bounds}
+use Rattle.c_typing.specs.Constants.{operated}
+use Rattle.c_typing.specs.Rules.{is_in_local, incomplete_type, address_of_local, no_lvalue, is_lvalue, not_assignable, bad_operand, bad_conversion, wrong_number, not_a_function, function_as_value, big_struct}
+use Rattle.c_typing.specs.Expressions.{callee_of, object_typing, local_typing, minus_one, expression, word_of_enumerator, type_of_name, variable_by, variable, step_faults, prefix_step, postfix_step, element_type, element_typing, subscript_constant, subscript, argument_faults, arguments, call_code, passed, called, call_by, field_of, no_field, dot, dereferenced_struct, arrow, address_operator, dereference, sign_operator, not_operator, unary, measured_type, cast, operator_with, binary_by, binary_operator, conditional, assignment, compound_by, assign, can_step, is_compound, is_called, number_of_type}
+use Rattle.c_typing.proofs.BoundsBase.{AllProper, ConstantIn, JudgedIn, both_in, rule_in, means_in, breaks_in, waits_in, verdict_in, besides_in, given_in, value_in, operated_in, chosen_in, binary_in, cast_in, part_in, element_in, address_in_bounds}
 
 module _ (N : ℕ) where
   first_faults : (fs gs : List Fault) → AllProper N fs → AllProper N gs → AllProper N (elim fs as (λ x. List Fault) [ [] ↦ gs | ◌∷◌ f rest ↦ f ∷ rest ])

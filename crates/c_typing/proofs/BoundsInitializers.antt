@@ -1,21 +1,20 @@
 -- The faults of initializers and functions name rules and nodes that are there.
-use Rattle.std.proofs.Common.{◌≡◌, ℕ, zero, suc, ◌+◌, ◌-◌, ◌<◌, Bool, true, false, not, ◌&&◌, ◌||◌, List, [], ◌∷◌, ◌++◌, length, map, Option, Some, None, refl, sym, ap, ◌∙◌, subst}
-use Rattle.std.specs.Prelude.{slice_get, unwrap_or, if◌then◌else◌, codes, ◌==◌, flat_map, option_map}
-use Rattle.std.specs.Option.{is_some}
+use Rattle.std.proofs.Common.{◌≡◌, ℕ, zero, suc, ◌<◌, Bool, true, false, not, ◌||◌, List, [], ◌∷◌, ◌++◌, length, map, Option, Some, None, refl, subst}
+use Rattle.std.specs.Prelude.{slice_get, unwrap_or, if◌then◌else◌, flat_map, option_map}
 use Rattle.std.specs.List.{range_with_len}
 use Rattle.c_syntax.specs.declared.kind.SynKind.{SynKind}
 use Rattle.c_syntax.specs.declared.kind.SynKind.TheVariants as kind
-use Rattle.c_typing.specs.Types.{CType, void, function, array, unsized, struct, is_array, is_struct, is_scalar, is_unsized, is_text_array, Layout, size_of}
+use Rattle.c_typing.specs.Types.{CType, unsized, is_array, is_struct, is_scalar, is_unsized, is_text_array, Layout, size_of}
 use Rattle.c_typing.specs.Places.{Node, nowhere, kid, has_kid, node_at, kind_at, next_to_name}
-use Rattle.c_typing.specs.Names.{Places, Name, is_static, name_of, function_number}
-use Rattle.c_typing.specs.Judgements.{Fault, Constant, Typing, Judgement, means, breaks_rules, waits, Meaning, initial, initialized, fills_array, verdict, given, besides, all_of, before, typing_at, code_at, type_at, judgement_at, layouts}
-use Rattle.c_typing.specs.Conversions.{value_of, is_assignable}
+use Rattle.c_typing.specs.Names.{Places, Name, is_static, name_of}
+use Rattle.c_typing.specs.Judgements.{Typing, Judgement, means, breaks_rules, waits, initial, initialized, fills_array, verdict, all_of, before, typing_at, code_at, type_at, judgement_at, layouts}
+use Rattle.c_typing.specs.Conversions.{value_of}
 use Rattle.c_typing.specs.Rules.{bad_conversion, not_constant_for, out_of_range, bad_initializer, declared_twice, size_fault, absent_length, is_constant_for}
 use Rattle.c_typing.specs.Expressions.{expression, literal}
 use Rattle.c_typing.specs.Declarators.{type_before}
-use Rattle.c_typing.specs.Initializers.{Part, part, part_type, part_of, part_offset, moved, scalar_part, value_part, braced_part, part_by, part_for, kid_part, too_many, init_around, is_static_name, count_in, braces_for, braces_by, braces, fills, target, string, text_cells, completed_faults, completed, given_count, initialized_object, object_code, is_object, init_by, init_declarator, bare_code}
+use Rattle.c_typing.specs.Initializers.{Part, part, part_of, part_offset, moved, scalar_part, value_part, braced_part, part_by, part_for, kid_part, too_many, init_around, is_static_name, count_in, braces_for, braces_by, braces, fills, target, string, completed_faults, completed, given_count, initialized_object, is_object, init_by, init_declarator, bare_code}
 use Rattle.c_typing.specs.Typing.{function_node, unit_node}
-use Rattle.c_typing.proofs.BoundsBase.{Proper, AllProper, ConstantIn, JudgedIn, both_in, rule_in, size_in, range_in, means_in, breaks_in, verdict_in, besides_in, given_in, AllIn, typing_in, value_in}
+use Rattle.c_typing.proofs.BoundsBase.{AllProper, ConstantIn, JudgedIn, both_in, rule_in, size_in, range_in, means_in, breaks_in, verdict_in, besides_in, given_in, AllIn, typing_in, value_in}
 use Rattle.c_typing.proofs.BoundsDeclarators.{choice}
 
 module _ (N : ℕ) (p : Places) (js : List Judgement) (nodes : (k : ℕ) → (node_at p.nodes k).id < N) (all : AllIn N js) where

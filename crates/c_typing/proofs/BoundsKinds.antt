@@ -1,16 +1,15 @@
 -- The faults of a tree name rules from 1 to 27, sizes above the limit, and nodes of the tree.
-use Rattle.std.proofs.Common.{◌≡◌, ℕ, zero, suc, ◌+◌, ◌<◌, ◌≤◌, Bool, true, false, not, ◌&&◌, ◌||◌, List, [], ◌∷◌, ◌++◌, length, map, Option, Some, None, refl, sym, ap, ◌∙◌, subst, arith, ◌⊎◌, inl, inr}
-use Rattle.std.specs.Prelude.{slice_get, unwrap_or, if◌then◌else◌, find, filter, flat_map, zip}
-use Rattle.std.specs.Option.{is_some}
+use Rattle.std.proofs.Common.{◌≡◌, ℕ, zero, suc, ◌<◌, not, List, [], ◌∷◌, ◌++◌, Option, Some, None, refl}
+use Rattle.std.specs.Prelude.{slice_get, unwrap_or}
 use Rattle.c_syntax.specs.declared.kind.SynKind.{SynKind}
 use Rattle.c_syntax.specs.declared.kind.SynKind.TheVariants as kind
 use Rattle.c_typing.specs.Types.{int, is_scalar}
-use Rattle.c_typing.specs.Places.{Node, nowhere, kid, other_kids, node_at, next_to_name}
+use Rattle.c_typing.specs.Places.{Node, nowhere, kid, node_at, next_to_name}
 use Rattle.c_typing.specs.Names.{Places, Name, name_of, denoted}
-use Rattle.c_typing.specs.Judgements.{Fault, Typing, Judgement, means, breaks_rules, waits, given, typing_at, type_at, steps_at, judgement_at, faults_in, faults_of}
+use Rattle.c_typing.specs.Judgements.{Typing, Judgement, means, breaks_rules, waits, given, typing_at, type_at, steps_at, faults_in, faults_of}
 use Rattle.c_typing.specs.Conversions.{value_of}
 use Rattle.c_typing.specs.Rules.{bad_operand}
-use Rattle.c_typing.specs.Expressions.{expression, number_of_type, integer_type, unary, postfix_step, binary_operator, assign, conditional, comma, subscript, call_by, dot, arrow, measured_type}
+use Rattle.c_typing.specs.Expressions.{expression, number_of_type, integer_type, unary, postfix_step, binary_operator, assign, comma, subscript, call_by, dot, arrow, measured_type}
 use Rattle.c_typing.specs.Statements.{does, empty_statement}
 use Rattle.c_typing.specs.Typing.{judged_by, judged_from, in_parentheses, choice_node}
 use Rattle.c_typing.proofs.BoundsBase.{AllProper, ConstantIn, JudgedIn, both_in, rule_in, means_in, waits_in, besides_in, given_in, AllIn, typing_in, steps_in, value_in}

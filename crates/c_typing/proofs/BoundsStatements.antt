@@ -1,17 +1,15 @@
 -- The faults of statements and declarations name rules and nodes that are there.
-use Rattle.std.proofs.Common.{◌≡◌, ℕ, zero, suc, ◌+◌, ◌<◌, Bool, true, false, not, ◌&&◌, ◌||◌, List, [], ◌∷◌, ◌++◌, length, map, Option, Some, None, refl, sym, ap, ◌∙◌, subst}
-use Rattle.std.specs.Prelude.{slice_get, unwrap_or, if◌then◌else◌, codes, ◌==◌, flat_map}
-use Rattle.std.specs.Option.{is_some}
+use Rattle.std.proofs.Common.{ℕ, ◌<◌, Bool, true, false, not, ◌||◌, List, map, Option, Some, None, refl}
+use Rattle.std.specs.Prelude.{if◌then◌else◌, codes}
 use Rattle.c_types.specs.declared.tree.Stmt.{Stmt}
-use Rattle.c_types.specs.Forms.{return_with}
 use Rattle.c_typing.specs.Types.{CType, void, is_integer, is_scalar}
 use Rattle.c_typing.specs.Places.{Node, kid, has_kid, other_kids, node_at, kind_at, says}
 use Rattle.c_typing.specs.Names.{Places, function_around}
-use Rattle.c_typing.specs.Judgements.{Fault, Constant, number, Typing, Judgement, means, Meaning, performs, labels, verdict, given, besides, all_of, typing_at, code_at, type_at, judgement_at}
-use Rattle.c_typing.specs.Conversions.{value_of, converted_to, is_assignable}
+use Rattle.c_typing.specs.Judgements.{Constant, number, Typing, Judgement, means, performs, all_of, typing_at, code_at, type_at, judgement_at}
+use Rattle.c_typing.specs.Conversions.{value_of, is_assignable}
 use Rattle.c_typing.specs.Rules.{bad_operand, bad_return}
-use Rattle.c_typing.specs.Statements.{block_of, does, as_one, statement_at, empty_statement, declarator_code, declaration, block_node, expression_statement, condition_faults, if_statement, while_statement, do_statement, part_by, for_part, first_by, test_faults, for_statement, break_statement, continue_statement, return_faults, return_by, return_statement, result_type_of, repeated_case, has_before, case_label, default_label, item_at, switch_statement}
-use Rattle.c_typing.proofs.BoundsBase.{AllProper, ConstantIn, JudgedIn, both_in, rule_in, range_in, means_in, verdict_in, besides_in, given_in, AllIn, typing_in}
+use Rattle.c_typing.specs.Statements.{statement_at, empty_statement, declarator_code, declaration, block_node, expression_statement, condition_faults, if_statement, while_statement, do_statement, for_part, first_by, test_faults, for_statement, break_statement, continue_statement, return_faults, return_by, return_statement, result_type_of, repeated_case, has_before, case_label, default_label, item_at, switch_statement}
+use Rattle.c_typing.proofs.BoundsBase.{AllProper, JudgedIn, both_in, rule_in, range_in, means_in, verdict_in, besides_in, given_in, AllIn, typing_in}
 
 module _ (N : ℕ) (p : Places) (js : List Judgement) (node : Node) (own : node.id < N) (kids : (i : ℕ) → kid node i < N) (all : AllIn N js) where
   pub declaration_in : JudgedIn N (declaration p js node)

@@ -1,7 +1,6 @@
 -- One typing: a derived tree is typed as one unit, or breaks a rule at one of its nodes, or has a size above the limit there.
-use Rattle.std.proofs.Common.{◌≡◌, ℕ, zero, suc, ◌+◌, ◌<◌, ◌≤◌, Bool, true, false, not, ◌&&◌, ◌||◌, List, [], ◌∷◌, ◌++◌, length, map, Option, Some, None, refl, sym, ap, ap₂, ◌∙◌, subst, arith, ◌⊎◌, inl, inr, zero-add}
-use Rattle.std.specs.Prelude.{slice_get, unwrap_or, if◌then◌else◌, find, filter, flat_map, zip, nat_le, nat_lt, ◌==◌, Contains}
-use Rattle.std.specs.Option.{is_some}
+use Rattle.std.proofs.Common.{◌≡◌, ℕ, suc, ◌+◌, ◌<◌, ◌≤◌, Bool, true, false, not, ◌&&◌, List, [], ◌∷◌, ◌++◌, length, map, Option, Some, None, refl, sym, subst, arith, ◌⊎◌, inl, inr}
+use Rattle.std.specs.Prelude.{slice_get, unwrap_or, if◌then◌else◌, find, filter, flat_map, zip, ◌==◌, Contains}
 use Rattle.std.proofs.lemmas.Bool.Decides.{nat_tests}
 use Rattle.c_lexer.specs.declared.token.Token.{Token}
 use Rattle.c_syntax.specs.declared.kind.SynKind.{SynKind}
@@ -9,28 +8,23 @@ use Rattle.c_syntax.specs.declared.kind.SynKind.TheVariants as kind
 use Rattle.c_syntax.specs.Trees.{Tree, one}
 use Rattle.c_syntax.specs.Tables.{size}
 use Rattle.c_grammar.specs.Derivation.{IsTreeOf}
-use Rattle.c_types.specs.declared.kind.TheConstants.{MAX_SIZE}
 use Rattle.c_types.specs.declared.kind.Measure.{Measure}
-use Rattle.c_types.specs.declared.tree.Unit.{Unit as Whole}
 use Rattle.c_types.specs.InOrder.{offsets}
 use Rattle.c_types.specs.Placing.{measures_of}
-use Rattle.c_typing.specs.Places.{Node, nowhere, nodes, kid, node_at, next_to_name, is_step, specs_of}
-use Rattle.c_typing.specs.Names.{Places, places, Name, Entity, name_of, denoted, objects_of, is_defined_object, earlier, is_static}
-use Rattle.c_typing.specs.Judgements.{Fault, rule, too_big, Judgement, waits, judgement_at, faults_of}
+use Rattle.c_typing.specs.Places.{Node, nowhere, nodes, is_step}
+use Rattle.c_typing.specs.Names.{Places, places, Name, denoted, objects_of, is_defined_object, earlier, is_static}
+use Rattle.c_typing.specs.Judgements.{Fault, rule, too_big, Judgement, faults_of}
 use Rattle.c_typing.specs.Expressions.{is_literal}
-use Rattle.c_typing.specs.Declarators.{place_of_specs}
-use Rattle.c_typing.specs.Rules.{function_in_block, size_fault}
-use Rattle.c_typing.specs.Typing.{judgements_at, stand_before_function, use_faults, is_there, place_faults_by, place_faults, data_nodes, data_of, literals_of, end_faults, data_faults, all_faults, faults, unit_of, IsTyped, Breaks, TooBig}
+use Rattle.c_typing.specs.Rules.{size_fault}
+use Rattle.c_typing.specs.Typing.{judgements_at, use_faults, is_there, place_faults_by, place_faults, data_nodes, data_of, literals_of, end_faults, data_faults, faults, unit_of}
 use Rattle.c_typing.specs.Meant.{IsBroken, IsTooBig, HasOneUnit}
 use Rattle.c_typing.specs.ShapesOfNodes.{category_at}
 use Rattle.c_typing.proofs.ShapesNodes as by_place
-use Rattle.c_typing.proofs.ProgressPlaces.{AreLinked, are_linked, within, kid_at, some_same}
-use Rattle.c_typing.proofs.ProgressKids.{Kid, kid_of}
-use Rattle.c_typing.proofs.ProgressWhole.{WholeAt}
-use Rattle.c_typing.proofs.ProgressDeclared.{AllNames, Stands, IsEnumerator, IsDeclaredName, all_names_stand, all_filter}
-use Rattle.c_typing.proofs.BoundsBase.{Proper, AllProper, JudgedIn, both_in, rule_in, size_in, waits_in, AllIn}
+use Rattle.c_typing.proofs.ProgressPlaces.{AreLinked, are_linked, within, some_same}
+use Rattle.c_typing.proofs.ProgressKids.{kid_of}
+use Rattle.c_typing.proofs.ProgressDeclared.{AllNames, Stands, all_names_stand, all_filter}
+use Rattle.c_typing.proofs.BoundsBase.{Proper, AllProper, both_in, rule_in, size_in, waits_in}
 use Rattle.c_typing.proofs.BoundsKinds.{NodeIn, PlacesIn, AllNodes, judged_in, faults_in_bounds}
-use Rattle.c_typing.proofs.ProgressAll.{AreShaped}
 
 -- ---- lists
 

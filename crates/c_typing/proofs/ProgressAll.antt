@@ -1,22 +1,20 @@
 -- Where no rule is broken, all nodes have a meaning of their form: by induction on their numbers.
-use Rattle.std.proofs.Common.{◌≡◌, ℕ, zero, suc, ◌+◌, ◌<◌, ◌≤◌, Bool, true, false, List, [], ◌∷◌, ◌++◌, length, map, Option, Some, None, refl, sym, ap, ap₂, ◌∙◌, subst, arith}
-use Rattle.std.specs.Prelude.{slice_get, get_or, unwrap_or, take, flat_map}
+use Rattle.std.proofs.Common.{◌≡◌, ℕ, zero, suc, ◌<◌, true, List, [], ◌∷◌, ◌++◌, map, Some, refl, sym, ap, ap₂, ◌∙◌, arith}
+use Rattle.std.specs.Prelude.{slice_get, get_or, unwrap_or, take}
 use Rattle.c_lexer.specs.declared.token.Token.{Token}
-use Rattle.c_syntax.specs.declared.kind.SynKind.{SynKind}
-use Rattle.c_syntax.specs.declared.syntax.SynId.{SynId}
 use Rattle.c_syntax.specs.Trees.{Tree}
 use Rattle.c_syntax.specs.Tables.{table_of}
 use Rattle.c_grammar.specs.Derivation.{IsTreeOf}
-use Rattle.c_typing.specs.Places.{Node, nowhere, nodes, node_at, kind_at, parent_of}
+use Rattle.c_typing.specs.Places.{Node, nowhere, nodes, node_at, kind_at}
 use Rattle.c_typing.specs.Names.{Places, places}
-use Rattle.c_typing.specs.Judgements.{Fault, Judgement, means, waits, breaks_rules, judgement_at, faults_in, faults_of}
-use Rattle.c_typing.specs.Typing.{judged_by, judgements_at, place_faults, data_faults, all_faults, faults}
+use Rattle.c_typing.specs.Judgements.{Fault, Judgement, judgement_at, faults_in, faults_of}
+use Rattle.c_typing.specs.Typing.{judgements_at, place_faults, data_faults, faults}
 use Rattle.c_typing.specs.Shapes.{Category, no_category, category_by, kids_fit, text_fits, at_places, categories_of}
-use Rattle.c_typing.specs.ShapesOfNodes.{as_id, in_table, category_at, IsPlaced}
+use Rattle.c_typing.specs.ShapesOfNodes.{as_id, category_at}
 use Rattle.c_typing.specs.Meant.{judgements}
 use Rattle.c_typing.proofs.ShapesNodes.{node_placed}
-use Rattle.c_typing.proofs.ProgressBase.{judged_at, earlier_at, Settles}
-use Rattle.c_typing.proofs.ProgressKids.{Tiled, tiled, Kid, kid_of}
+use Rattle.c_typing.proofs.ProgressBase.{judged_at, earlier_at}
+use Rattle.c_typing.proofs.ProgressKids.{Tiled, tiled, kid_of}
 use Rattle.c_typing.proofs.ProgressForms.{fits}
 use Rattle.c_typing.proofs.ProgressStep.{KidHas, Special, Ready}
 use Rattle.c_typing.proofs.ProgressKind.{settles}

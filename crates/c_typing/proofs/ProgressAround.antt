@@ -1,20 +1,20 @@
 -- The function around a statement: there is one, and it is found.
-use Rattle.std.proofs.Common.{◌≡◌, ℕ, zero, suc, ◌+◌, ◌<◌, ◌≤◌, Bool, true, false, not, ◌&&◌, List, [], ◌∷◌, length, map, Option, Some, None, refl, sym, ap, ap₂, ◌∙◌, ◌-◌, subst, arith, true≢false, ◌⊎◌, inl, inr}
+use Rattle.std.proofs.Common.{◌≡◌, ℕ, zero, suc, ◌+◌, ◌<◌, ◌≤◌, Bool, true, false, List, [], ◌∷◌, length, map, Some, refl, sym, ap, ap₂, ◌∙◌, ◌-◌, subst, arith, true≢false, ◌⊎◌, inl, inr}
 use Rattle.std.specs.Prelude.{slice_get, get_or, unwrap_or, take, find, filter, nat_le, if◌then◌else◌}
 use Rattle.std.proofs.lemmas.Bool.Decides.{nat_tests}
 use Rattle.c_syntax.specs.declared.kind.SynKind.{SynKind}
 use Rattle.c_syntax.specs.declared.kind.SynKind.TheVariants as kind
-use Rattle.c_typing.specs.Places.{Node, nowhere, node_at, kind_at, parent_of, kid, holds, is_function}
+use Rattle.c_typing.specs.Places.{Node, nowhere, kind_at, kid, holds, is_function}
 use Rattle.c_typing.specs.Names.{Places, function_around}
-use Rattle.c_typing.specs.Judgements.{Judgement, judgement_at, type_of, type_at}
+use Rattle.c_typing.specs.Judgements.{judgement_at, type_of, type_at}
 use Rattle.c_typing.specs.Typing.{judgements_at}
 use Rattle.c_typing.specs.Shapes as category
 use Rattle.c_typing.specs.Shapes.{Category, no_category, category_by, kids_fit, stands_in, holds_statements}
 use Rattle.c_typing.proofs.ProgressBase.{earlier_at}
-use Rattle.c_typing.proofs.ProgressForms.{fits, Has, has_type, has_its_type, split}
+use Rattle.c_typing.proofs.ProgressForms.{Has, has_type, has_its_type, split}
 use Rattle.c_typing.proofs.ProgressKinds as of
-use Rattle.c_typing.proofs.ProgressStep.{At, at_index}
-use Rattle.c_typing.proofs.ProgressAll.{AreShaped, Meant, found_at, by_number}
+use Rattle.c_typing.proofs.ProgressStep.{at_index}
+use Rattle.c_typing.proofs.ProgressAll.{Meant, found_at, by_number}
 use Rattle.c_typing.proofs.ProgressPlaces.{Linked, AreLinked, kids_apart, parent_above, first_low, stands, get_or_at, some_same, compare, within}
 use Rattle.c_typing.proofs.ProgressKids.{kid_of}
 use Rattle.c_typing.proofs.ShapesBase.{both}

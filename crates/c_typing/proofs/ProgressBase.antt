@@ -1,9 +1,9 @@
 -- Judgements in their order, and what is left where no rule is broken.
-use Rattle.std.proofs.Common.{◌≡◌, ℕ, zero, suc, ◌+◌, ◌<◌, ◌≤◌, Bool, true, false, List, [], ◌∷◌, ◌++◌, length, map, Option, Some, None, refl, sym, ap, ap₂, ◌∙◌, subst, arith, append_assoc, length-append, true≢false}
-use Rattle.std.specs.Prelude.{slice_get, unwrap_or, take, flat_map}
+use Rattle.std.proofs.Common.{◌≡◌, ℕ, zero, suc, ◌+◌, ◌<◌, Bool, true, List, [], ◌∷◌, ◌++◌, length, Option, Some, refl, sym, ap, ap₂, ◌∙◌, subst, arith, append_assoc, length-append}
+use Rattle.std.specs.Prelude.{slice_get, unwrap_or, take}
 use Rattle.c_typing.specs.Places.{Node}
 use Rattle.c_typing.specs.Names.{Places}
-use Rattle.c_typing.specs.Judgements.{Fault, Meaning, Judgement, means, breaks_rules, waits, verdict, besides, given, before, all_of, judgement_at, faults_in, faults_of}
+use Rattle.c_typing.specs.Judgements.{Fault, Meaning, Judgement, means, breaks_rules, waits, verdict, besides, given, before, all_of, judgement_at, faults_in}
 use Rattle.c_typing.specs.Typing.{judged_by, judged_from}
 
 -- ---- lists

@@ -1,15 +1,13 @@
 -- What specs and enumerators before a node mean.
-use Rattle.std.proofs.Common.{◌≡◌, ℕ, zero, suc, ◌+◌, ◌<◌, ◌≤◌, Bool, true, false, not, ◌&&◌, List, [], ◌∷◌, length, map, Option, Some, None, refl, sym, ap, ap₂, ◌∙◌, subst, arith, true≢false, ◌⊎◌, inl, inr}
+use Rattle.std.proofs.Common.{◌≡◌, ℕ, suc, ◌<◌, true, false, not, List, length, map, Option, Some, None, refl, sym, ap, ap₂, ◌∙◌, arith, true≢false, ◌⊎◌, inl, inr}
 use Rattle.std.specs.Prelude.{slice_get, get_or, unwrap_or, take, position, ◌==◌}
-use Rattle.std.specs.List.{list_all}
 use Rattle.std.proofs.lemmas.List.Quantifiers.{position-Some}
 use Rattle.std.proofs.lemmas.Bool.Decides.{Decides-eqb}
 use Rattle.std.proofs.lemmas.Option.{slice_get-get_or}
-use Rattle.c_syntax.specs.declared.kind.SynKind.{SynKind}
 use Rattle.c_syntax.specs.declared.kind.SynKind.TheVariants as kind
-use Rattle.c_typing.specs.Places.{Node, nowhere, node_at, kind_at, parent_of, index_in, specs_of, is_declarator as is_declarator_kind}
+use Rattle.c_typing.specs.Places.{Node, kind_at, parent_of, index_in, specs_of, is_declarator as is_declarator_kind}
 use Rattle.c_typing.specs.Names.{Places}
-use Rattle.c_typing.specs.Judgements.{Judgement, judgement_at, type_of, type_at}
+use Rattle.c_typing.specs.Judgements.{judgement_at, type_of, type_at}
 use Rattle.c_typing.specs.Expressions.{word_of_enumerator}
 use Rattle.c_typing.specs.Typing.{judgements_at}
 use Rattle.c_typing.specs.Shapes as category
@@ -18,8 +16,8 @@ use Rattle.c_typing.proofs.ProgressBase.{earlier_at}
 use Rattle.c_typing.proofs.ProgressForms.{fits, is_part, Has, has_type, has_its_type, has_word}
 use Rattle.c_typing.proofs.ProgressKinds as of
 use Rattle.c_typing.proofs.ProgressStep.{at_all}
-use Rattle.c_typing.proofs.ProgressAll.{AreShaped, Meant, found_at}
-use Rattle.c_typing.proofs.ProgressPlaces.{Linked, AreLinked, kids_apart, first_low, stands, some_same}
+use Rattle.c_typing.proofs.ProgressAll.{Meant}
+use Rattle.c_typing.proofs.ProgressPlaces.{Linked, AreLinked, kids_apart, first_low, stands}
 use Rattle.c_typing.proofs.ProgressOwners.{is_specs, only_specs, Before, specs_before, parent_is, in_enum}
 use Rattle.c_typing.proofs.ProgressKids.{kid_of}
 

@@ -1,17 +1,15 @@
 -- Specs, declarators and what is made of them: where the parts have meanings, and no rule is broken, each has one.
-use Rattle.std.proofs.Common.{◌≡◌, ℕ, zero, suc, ◌+◌, ◌-◌, Bool, true, false, ◌&&◌, ◌||◌, not, List, [], ◌∷◌, ◌++◌, length, map, Option, Some, None, refl, sym, ap, ap₂, ◌∙◌, subst, arith, true≢false}
-use Rattle.std.specs.Prelude.{get_or, slice_get, unwrap_or, if◌then◌else◌, option_map, filter, filter_map}
-use Rattle.std.specs.Option.{is_some}
+use Rattle.std.proofs.Common.{◌≡◌, ℕ, zero, suc, Bool, true, false, ◌||◌, not, List, [], ◌∷◌, ◌++◌, length, map, Option, Some, None, refl, sym, ap, ◌∙◌, subst, arith, true≢false}
+use Rattle.std.specs.Prelude.{slice_get, unwrap_or, if◌then◌else◌, filter, filter_map}
 use Rattle.c_syntax.specs.declared.kind.SynKind.{SynKind}
-use Rattle.c_syntax.specs.declared.kind.SynKind.TheVariants as kind
 use Rattle.c_grammar.specs.Vocabulary.{is_type_word, is_storage_word}
 use Rattle.c_typing.specs.Types.{CType}
-use Rattle.c_typing.specs.Places.{Node, kid, has_kid, other_kids, node_at, kind_at, text_at, is_word, parent_of, index_in, specs_of, is_whole, is_declarator}
-use Rattle.c_typing.specs.Names.{Places, Name, is_typedef, denoted, tag_of, name_of}
-use Rattle.c_typing.specs.Judgements.{Fault, rule, Meaning, itself, a_type, a_struct, members, enumerates, steps, declares, defines, Judgement, means, waits, Typing, PlacedStep, Step, of_function, verdict, given, besides, all_of, typing_at, code_at, type_at, steps_at, judgement_at, layouts}
-use Rattle.c_typing.specs.Rules.{bad_storage_class, absent_length, many_parameters, bad_parameter, unknown_name}
+use Rattle.c_typing.specs.Places.{Node, kid, has_kid, other_kids, kind_at, text_at, is_word, parent_of, index_in, specs_of, is_whole, is_declarator}
+use Rattle.c_typing.specs.Names.{Places, Name, is_typedef, denoted, tag_of}
+use Rattle.c_typing.specs.Judgements.{Fault, rule, Meaning, itself, a_type, steps, declares, Judgement, means, Typing, PlacedStep, verdict, typing_at, code_at, type_at, steps_at, judgement_at, layouts}
+use Rattle.c_typing.specs.Rules.{bad_storage_class, many_parameters, bad_parameter, unknown_name}
 use Rattle.c_typing.specs.Expressions.{type_of_name, word_of_enumerator}
-use Rattle.c_typing.specs.Declarators.{typedef_type, spec_word, spec_meaning, is_storage, place_of_specs, specs, members_of, struct_body, struct_specifier, tag_faults, member_faults, is_known_enum, enum_specifier, enumerator_after, enumerator_value, enumerator_node, built, Built, whole_by, whole_type, declarator, build, with_step, pointer_declarator, is_parameter_length, is_given_by_initializer, absent_length_step, length_faults, length_step, array_declarator, function_declarator, member_at, member, parameter_node, type_name}
+use Rattle.c_typing.specs.Declarators.{typedef_type, spec_word, spec_meaning, is_storage, place_of_specs, specs, members_of, struct_body, struct_specifier, tag_faults, member_faults, is_known_enum, enum_specifier, enumerator_after, enumerator_value, enumerator_node, built, whole_type, declarator, build, pointer_declarator, is_parameter_length, is_given_by_initializer, absent_length_step, length_faults, length_step, array_declarator, function_declarator, member_at, member, parameter_node, type_name}
 use Rattle.c_typing.specs.Typing.{function_node, unit_node, in_parentheses}
 use Rattle.c_typing.specs.Shapes as category
 use Rattle.c_typing.specs.Shapes.{Category, word_category}

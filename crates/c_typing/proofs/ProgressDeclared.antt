@@ -1,23 +1,23 @@
 -- The names of a unit: what each stands for, and that it has a type behind its declarator.
-use Rattle.std.proofs.Common.{◌≡◌, ℕ, zero, suc, ◌+◌, ◌<◌, ◌≤◌, Bool, true, false, not, ◌&&◌, ◌||◌, List, [], ◌∷◌, ◌++◌, length, map, Option, Some, None, refl, sym, ap, ap₂, ◌∙◌, subst, arith, true≢false, ◌⊎◌, inl, inr}
-use Rattle.std.specs.Prelude.{slice_get, get_or, unwrap_or, take, filter, find, nat_lt, nat_le, codes, ◌==◌, if◌then◌else◌}
+use Rattle.std.proofs.Common.{◌≡◌, ℕ, suc, ◌<◌, Bool, true, false, ◌&&◌, ◌||◌, List, [], ◌∷◌, ◌++◌, map, Option, Some, None, refl, sym, ap, ◌∙◌, subst, arith, true≢false, ◌⊎◌, inl, inr}
+use Rattle.std.specs.Prelude.{slice_get, take, filter, nat_lt, nat_le, codes, if◌then◌else◌}
 use Rattle.std.specs.Option.{is_some}
-use Rattle.std.proofs.lemmas.Bool.Decides.{nat_tests, Decides-eqb}
+use Rattle.std.proofs.lemmas.Bool.Decides.{nat_tests}
 use Rattle.std.specs.Str.{bytes_eq}
 use Rattle.c_syntax.specs.declared.kind.SynKind.{SynKind}
 use Rattle.c_syntax.specs.declared.kind.SynKind.TheVariants as kind
-use Rattle.c_typing.specs.Places.{Node, nowhere, node_at, kind_at, whole_declarator, Scope, scope_at, specs_of, in_scope, end_of, says, is_file_scope}
+use Rattle.c_typing.specs.Places.{Node, node_at, kind_at, whole_declarator, Scope, scope_at, specs_of, in_scope, end_of, says, is_file_scope}
 use Rattle.c_typing.specs.Types.{CType}
-use Rattle.c_typing.specs.Names.{Entity, typedef_name, function_name, static_object, automatic, enumerator, Name, Places, inner_of, innermost, names_at, denoted, declares_function, entity_by, name_list, declared_name, names_by, names_from, name_of}
-use Rattle.c_typing.specs.Judgements.{Judgement, judgement_at, type_of, type_at}
+use Rattle.c_typing.specs.Names.{Entity, typedef_name, function_name, static_object, automatic, enumerator, Name, Places, inner_of, innermost, names_at, denoted, declares_function, entity_by, name_list, names_by, names_from}
+use Rattle.c_typing.specs.Judgements.{judgement_at, type_of, type_at}
 use Rattle.c_typing.specs.Expressions.{type_of_name, word_of_enumerator}
 use Rattle.c_typing.specs.Typing.{judgements_at}
 use Rattle.c_typing.specs.Shapes as category
 use Rattle.c_typing.specs.Shapes.{Category, category_by}
 use Rattle.c_typing.proofs.ProgressBase.{earlier_at}
-use Rattle.c_typing.proofs.ProgressForms.{fits, Has, has_type, has_its_type, has_word, split}
-use Rattle.c_typing.proofs.ProgressAll.{AreShaped, Meant, found_at}
-use Rattle.c_typing.proofs.ProgressPlaces.{AreLinked, some_same}
+use Rattle.c_typing.proofs.ProgressForms.{fits, Has, has_type, has_its_type, has_word}
+use Rattle.c_typing.proofs.ProgressAll.{Meant}
+use Rattle.c_typing.proofs.ProgressPlaces.{AreLinked}
 use Rattle.c_typing.proofs.ProgressWhole.{WholeAt, NameIs, whole_of}
 
 no : {A : Type 0} → false ≡ true → A

@@ -1,16 +1,14 @@
 -- Each kind of expression: where its operands have meanings, and it breaks no rule, it has one.
-use Rattle.std.proofs.Common.{◌≡◌, ℕ, zero, suc, Bool, true, false, ◌&&◌, ◌||◌, not, List, [], ◌∷◌, length, map, Option, Some, None, refl, sym, ap, ◌∙◌, subst, true≢false}
-use Rattle.std.specs.Prelude.{get_or, slice_get, unwrap_or, if◌then◌else◌, ◌==◌, codes}
+use Rattle.std.proofs.Common.{◌≡◌, ℕ, Bool, true, false, List, length, map, Some, refl, sym, true≢false}
+use Rattle.std.specs.Prelude.{unwrap_or, if◌then◌else◌, ◌==◌, codes}
 use Rattle.std.specs.Str.{bytes_eq}
 use Rattle.c_syntax.specs.declared.kind.SynKind.{SynKind}
-use Rattle.c_syntax.specs.declared.kind.SynKind.TheVariants as kind
-use Rattle.std.specs.Option.{is_some}
 use Rattle.c_types.specs.Forms.{seq}
 use Rattle.c_typing.specs.Rules.{bad_operand, wrong_number, not_a_function}
-use Rattle.c_typing.specs.Types.{listed, IntegerType, Layout, promoted, integer_of, CType, void, integer, pointer, array, unsized, struct, function}
+use Rattle.c_typing.specs.Types.{listed, IntegerType, Layout, promoted, integer_of, CType, pointer, array, unsized, struct, function}
 use Rattle.c_typing.specs.Places.{Node, other_kids}
 use Rattle.c_typing.specs.Names.{Places}
-use Rattle.c_typing.specs.Judgements.{all_of, no_constant, Form, Constant, value, in_local, in_memory, temporary, callee, Meaning, expresses, Fault, Judgement, means, waits, Typing, verdict, given, typing_at, layouts, Callee}
+use Rattle.c_typing.specs.Judgements.{all_of, no_constant, Form, Constant, value, in_local, in_memory, temporary, callee, expresses, Fault, Judgement, means, Typing, verdict, given, typing_at, layouts, Callee}
 use Rattle.c_typing.specs.Conversions.{result, result_form, value_of, value_by, read_by, Operator, operator_of, choice_type}
 use Rattle.c_typing.specs.Expressions.{expression, arguments, argument_faults, call_code, passed, sign_typing, element_type, element_typing, field_of, no_field, prefix_step, postfix_step, subscript, called, call_by, dot, arrow, address_operator, dereference, sign_operator, not_operator, unary, measured_type, cast, binary_by, binary_operator, conditional, comma, assignment, compound_by, before_equal, assign, member_form}
 use Rattle.c_typing.specs.Shapes as category

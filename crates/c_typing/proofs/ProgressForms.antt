@@ -1,16 +1,12 @@
 -- What the form of a kid's meaning gives the node above it.
-use Rattle.std.proofs.Common.{◌≡◌, ℕ, zero, suc, Bool, true, false, ◌&&◌, not, List, [], ◌∷◌, map, Option, Some, None, refl, sym, ap, ◌∙◌, true≢false}
-use Rattle.std.specs.Prelude.{get_or, slice_get}
+use Rattle.std.proofs.Common.{◌≡◌, Bool, true, false, ◌&&◌, not, [], ◌∷◌, Option, Some, None, refl, sym, true≢false}
 use Rattle.c_syntax.specs.declared.kind.SynKind.{SynKind}
 use Rattle.c_syntax.specs.declared.kind.SynKind.TheVariants as kind
-use Rattle.c_types.specs.declared.tree.Stmt.{Stmt}
-use Rattle.c_typing.specs.Types.{CType}
 use Rattle.c_typing.specs.Places.{is_declarator}
-use Rattle.c_typing.specs.Judgements.{Meaning, itself, a_type, a_struct, members, enumerates, steps, declares, expresses, fills_array, initial, initialized, performs, labels, defines, Judgement, means, breaks_rules, waits, Typing, PlacedStep, typing_of, type_of, steps_of, code_of}
+use Rattle.c_typing.specs.Judgements.{Meaning, itself, a_type, a_struct, members, enumerates, steps, declares, expresses, fills_array, initialized, performs, labels, Judgement, means, breaks_rules, waits, Typing, typing_of, type_of, steps_of, code_of}
 use Rattle.c_typing.specs.Expressions.{word_of_enumerator}
 use Rattle.c_typing.specs.Declarators.{spec_meaning, members_of}
-use Rattle.c_typing.specs.Statements.{item_at, declarator_code, Item, a_label, a_statement}
-use Rattle.c_typing.specs.Types.{Field}
+use Rattle.c_typing.specs.Statements.{item_at, declarator_code, a_label}
 use Rattle.c_typing.specs.Shapes as category
 use Rattle.c_typing.specs.Shapes.{Category}
 use Rattle.c_typing.specs.Meant.{has_form, is_callable}

@@ -1,26 +1,24 @@
 -- Initializers: a value, a string and braces are what they have to be for what they initialize.
-use Rattle.std.proofs.Common.{◌≡◌, ℕ, zero, suc, ◌+◌, ◌<◌, ◌≤◌, Bool, true, false, not, ◌&&◌, ◌||◌, List, [], ◌∷◌, ◌++◌, length, map, Option, Some, None, refl, sym, ap, ap₂, ◌∙◌, subst, arith, true≢false, ◌⊎◌, inl, inr}
-use Rattle.std.specs.Prelude.{slice_get, get_or, unwrap_or, take, find, ◌==◌, if◌then◌else◌, option_map, option_and_then, position}
-use Rattle.std.specs.Option.{is_some}
+use Rattle.std.proofs.Common.{◌≡◌, ℕ, zero, suc, ◌+◌, ◌<◌, ◌≤◌, Bool, true, false, ◌||◌, List, [], ◌∷◌, length, map, Option, Some, None, refl, sym, ap, ◌∙◌, subst, arith, true≢false, ◌⊎◌, inl, inr}
+use Rattle.std.specs.Prelude.{◌==◌, if◌then◌else◌, option_map, option_and_then}
 use Rattle.std.specs.List.{range_with_len}
 use Rattle.c_syntax.specs.declared.kind.SynKind.{SynKind}
 use Rattle.c_syntax.specs.declared.kind.SynKind.TheVariants as kind
 use Rattle.c_typing.specs.Types.{CType, Layout, is_text_array, is_array, is_struct, is_scalar}
-use Rattle.c_typing.specs.Places.{Node, kid, parent_of, index_in, node_at, kind_at, has_kid, is_string}
-use Rattle.c_typing.specs.Names.{Places, Name, is_static}
-use Rattle.c_typing.specs.Judgements.{Meaning, initial, expresses, fills_array, means, breaks_rules, waits, Judgement, Typing, judgement_at, typing_of, typing_at, layouts, type_at}
-use Rattle.c_typing.specs.Initializers.{Part, part_type, part_of, part_offset, moved, value_part, braced_part, part_by, part_for, kid_part, declared_object, target_by, target_within, target, fills, string, init_around, is_static_name}
+use Rattle.c_typing.specs.Places.{Node, kid, parent_of, index_in, node_at, kind_at, is_string}
+use Rattle.c_typing.specs.Names.{Places, Name}
+use Rattle.c_typing.specs.Judgements.{initial, expresses, fills_array, means, breaks_rules, waits, Judgement, Typing, judgement_at, typing_of, typing_at, layouts, type_at}
+use Rattle.c_typing.specs.Initializers.{Part, part_of, part_offset, moved, value_part, braced_part, part_by, part_for, kid_part, declared_object, target_by, target_within, target, fills, string}
 use Rattle.c_typing.specs.Expressions.{expression, literal}
-use Rattle.c_typing.specs.Typing.{judged_by, judgements_at}
+use Rattle.c_typing.specs.Typing.{judged_by}
 use Rattle.c_typing.specs.Shapes as category
 use Rattle.c_typing.specs.Shapes.{Category, no_category, category_by, declarator_over, in_parentheses, word_category}
 use Rattle.c_grammar.specs.Vocabulary.{is_type_word, is_storage_word}
 use Rattle.c_typing.specs.Meant.{has_form}
-use Rattle.c_typing.proofs.ProgressBase.{judged_at, AllThere, no_part, and_part}
+use Rattle.c_typing.proofs.ProgressBase.{AllThere, no_part, and_part}
 use Rattle.c_typing.proofs.ProgressForms.{fits, may_fill, is_some_expression, Has, split}
 use Rattle.c_typing.proofs.ProgressKinds as of
 use Rattle.c_typing.proofs.ProgressStep.{KidHas}
-use Rattle.c_typing.proofs.ProgressTargets.{target_later, parts_later, typed_later}
 
 no : {A : Type 0} → false ≡ true → A
 no e = absurd (true≢false (sym e))

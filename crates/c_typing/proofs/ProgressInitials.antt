@@ -1,6 +1,6 @@
 -- Initializers where they are reached, and all that the meaning of a node is made of beside its kids.
-use Rattle.std.proofs.Common.{◌≡◌, ℕ, zero, suc, ◌+◌, ◌-◌, ◌<◌, ◌≤◌, Bool, true, false, not, ◌&&◌, ◌||◌, List, [], ◌∷◌, ◌++◌, length, map, Option, Some, None, refl, sym, ap, ap₂, ◌∙◌, subst, arith, true≢false, ◌⊎◌, inl, inr}
-use Rattle.std.specs.Prelude.{slice_get, get_or, unwrap_or, take, find, filter, nat_lt, ◌==◌, if◌then◌else◌, position}
+use Rattle.std.proofs.Common.{◌≡◌, ℕ, zero, suc, ◌+◌, ◌<◌, Bool, true, false, not, ◌||◌, List, [], ◌∷◌, length, map, Option, Some, None, refl, sym, ap, ap₂, ◌∙◌, subst, arith, true≢false}
+use Rattle.std.specs.Prelude.{slice_get, unwrap_or, take, nat_lt, ◌==◌, if◌then◌else◌}
 use Rattle.std.specs.Option.{is_some}
 use Rattle.std.specs.List.{list_any, list_all, position_or_len}
 use Rattle.std.proofs.lemmas.Bool.Decides.{Decides-eqb, nat_tests}
@@ -8,22 +8,20 @@ use Rattle.std.proofs.lemmas.Option.{slice_get-get_or}
 use Rattle.c_syntax.specs.declared.kind.SynKind.{SynKind}
 use Rattle.c_syntax.specs.declared.kind.SynKind.TheVariants as kind
 use Rattle.c_typing.specs.Types.{CType, is_text_array, is_scalar}
-use Rattle.c_typing.specs.Places.{Node, nowhere, node_at, kind_at, parent_of, kid, has_kid, index_in, specs_of, is_declarator, whole_declarator, Scope, scope_at}
-use Rattle.c_typing.specs.Names.{Entity, Name, Places, is_static, names_from, names_by, declared_name, name_list, entity_by, declares_function, name_of}
-use Rattle.c_typing.specs.Judgements.{fills_array, means, Judgement, judgement_at, type_at, type_of, layouts}
-use Rattle.c_typing.specs.Initializers.{Part, part_of, part_for, kid_part, target, target_by, target_within, is_object, init_around, is_static_name, fills}
+use Rattle.c_typing.specs.Places.{Node, node_at, kind_at, parent_of, kid, has_kid, index_in, specs_of, whole_declarator, Scope, scope_at}
+use Rattle.c_typing.specs.Names.{Entity, Name, Places, is_static, names_by, name_list, entity_by, declares_function, name_of}
+use Rattle.c_typing.specs.Judgements.{fills_array, means, Judgement, judgement_at, type_at, layouts}
+use Rattle.c_typing.specs.Initializers.{part_of, part_for, kid_part, target, target_by, target_within, init_around, is_static_name}
 use Rattle.c_typing.specs.Typing.{judgements_at}
-use Rattle.c_typing.specs.Shapes as category
-use Rattle.c_typing.specs.Shapes.{Category, no_category, category_by, kids_fit}
-use Rattle.c_typing.proofs.ProgressBase.{AllThere}
-use Rattle.c_typing.proofs.ProgressForms.{fits, may_fill, Has, has_type, has_its_type}
+use Rattle.c_typing.specs.Shapes.{Category, category_by, kids_fit}
+use Rattle.c_typing.proofs.ProgressForms.{Has, has_type, has_its_type}
 use Rattle.c_typing.proofs.ProgressKinds as of
 use Rattle.c_typing.proofs.ProgressOperators.{found}
 use Rattle.c_typing.proofs.ProgressNames.{HasParts, IsInitial}
-use Rattle.c_typing.proofs.ProgressStep.{KidHas, Special, at_all, has_at}
-use Rattle.c_typing.proofs.ProgressAll.{AreShaped, Meant, Specials, found_at, kid_has}
-use Rattle.c_typing.proofs.ProgressKids.{KidsFrom, Kid, kid_of}
-use Rattle.c_typing.proofs.ProgressPlaces.{AreLinked, within, some_same, kids_apart, first_low}
+use Rattle.c_typing.proofs.ProgressStep.{at_all, has_at}
+use Rattle.c_typing.proofs.ProgressAll.{Meant, Specials, found_at, kid_has}
+use Rattle.c_typing.proofs.ProgressKids.{Kid, kid_of}
+use Rattle.c_typing.proofs.ProgressPlaces.{AreLinked, some_same, kids_apart, first_low}
 use Rattle.c_typing.proofs.ProgressBefore.{specified, enumerated}
 use Rattle.c_typing.proofs.ProgressAround.{is_body, function_typed}
 use Rattle.c_typing.proofs.ProgressInitial.{has_part, of_parent, init_target, braces_target, all_parts, kid_part_there}

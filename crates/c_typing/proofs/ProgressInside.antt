@@ -1,25 +1,23 @@
 -- What stands inside of a node, and the name that a declarator with an initializer declares.
-use Rattle.std.proofs.Common.{◌≡◌, ℕ, zero, suc, ◌+◌, ◌<◌, ◌≤◌, Bool, true, false, not, ◌&&◌, ◌||◌, List, [], ◌∷◌, ◌++◌, length, map, Option, Some, None, refl, sym, ap, ap₂, ◌∙◌, subst, arith, true≢false, ◌⊎◌, inl, inr}
-use Rattle.std.specs.Prelude.{slice_get, get_or, unwrap_or, find, ◌==◌, if◌then◌else◌}
+use Rattle.std.proofs.Common.{◌≡◌, ℕ, zero, suc, ◌+◌, ◌<◌, ◌≤◌, Bool, true, false, ◌||◌, List, [], ◌∷◌, ◌++◌, length, map, Some, refl, sym, ap, ◌∙◌, arith, true≢false, ◌⊎◌, inl, inr}
+use Rattle.std.specs.Prelude.{slice_get, get_or, unwrap_or, if◌then◌else◌}
 use Rattle.std.specs.List.{list_any}
 use Rattle.std.proofs.lemmas.Bool.Decides.{Decides-eqb}
 use Rattle.c_syntax.specs.declared.kind.SynKind.{SynKind}
 use Rattle.c_syntax.specs.declared.kind.SynKind.TheVariants as kind
-use Rattle.c_typing.specs.Places.{Node, nowhere, node_at, kind_at, kid, whole_declarator, Scope, scope_at, specs_of, is_declarator}
-use Rattle.c_typing.specs.Names.{Entity, Name, Places, declares_function, entity_by, name_list, declared_name, names_by, names_from, name_of}
+use Rattle.c_typing.specs.Places.{Node, kid, whole_declarator, Scope, is_declarator}
+use Rattle.c_typing.specs.Names.{Name, names_by, names_from}
 use Rattle.c_typing.specs.Shapes as category
 use Rattle.c_typing.specs.Shapes.{Category, no_category, category_by, kids_fit, begins_with}
 use Rattle.c_grammar.specs.Vocabulary.{is_type_word, is_storage_word}
 use Rattle.c_typing.proofs.ShapesBase.{both}
-use Rattle.c_typing.proofs.ProgressForms.{Has}
 use Rattle.c_typing.proofs.ProgressKinds as of
 use Rattle.c_typing.proofs.ProgressStep.{At, at_index}
-use Rattle.c_typing.proofs.ProgressOperators.{found}
-use Rattle.c_typing.proofs.ProgressAll.{AreShaped, found_at, by_number}
-use Rattle.c_typing.proofs.ProgressKids.{KidsFrom, KidAt, Tiled, low}
+use Rattle.c_typing.proofs.ProgressAll.{found_at, by_number}
+use Rattle.c_typing.proofs.ProgressKids.{KidsFrom, low}
 use Rattle.c_typing.proofs.ProgressPlaces.{Lowest, Linked, AreLinked, kid_at, parent_above, first_low, some_same, compare, within as bound}
-use Rattle.c_typing.proofs.ProgressOwners.{Before, init_specs}
-use Rattle.c_typing.proofs.ProgressWhole.{WholeAt, NameIs, whole_of, first_begins}
+use Rattle.c_typing.proofs.ProgressOwners.{init_specs}
+use Rattle.c_typing.proofs.ProgressWhole.{NameIs, whole_of, first_begins}
 
 no : {A : Type 0} → false ≡ true → A
 no e = absurd (true≢false (sym e))

@@ -1,14 +1,12 @@
 -- The kids of a node: each stands behind the one before it, and the last right before the node.
-use Rattle.std.proofs.Common.{◌≡◌, ℕ, zero, suc, ◌+◌, ◌<◌, ◌≤◌, List, [], ◌∷◌, ◌++◌, length, map, true, Some, refl, sym, ap, ap₂, ◌∙◌, subst, arith, zero-add}
-use Rattle.std.specs.Prelude.{slice_get, get_or}
+use Rattle.std.proofs.Common.{◌≡◌, ℕ, zero, suc, ◌+◌, ◌<◌, ◌≤◌, List, [], ◌∷◌, Some, refl, subst, arith, zero-add}
+use Rattle.std.specs.Prelude.{slice_get}
 use Rattle.c_lexer.specs.declared.token.Token.{Token}
-use Rattle.c_syntax.specs.declared.label.Label.{Label}
-use Rattle.c_syntax.specs.declared.syntax.SynId.{SynId}
 use Rattle.c_syntax.specs.Trees.{Tree, Forest, none, tree, one}
 use Rattle.c_syntax.specs.Tables.{size, roots, table_of}
 use Rattle.c_grammar.specs.Derivation.{IsTreeOf}
 use Rattle.c_typing.specs.Places.{Node, numbers, nodes_of, nodes}
-use Rattle.c_typing.specs.Shapes.{Category, no_category, categories_of}
+use Rattle.c_typing.specs.Shapes.{Category, categories_of}
 use Rattle.c_typing.proofs.ShapesNodes as by_place
 use Rattle.c_typing.proofs.ShapesNodes.{Between, AllFrom, all_of_tree, all_at, kids_between, rest_between, own_there}
 

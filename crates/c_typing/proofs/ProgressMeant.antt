@@ -1,5 +1,5 @@
 -- Where no rule is broken, all nodes of a derived tree have a meaning; so the tree is typed as one unit, or broken, or too big.
-use Rattle.std.proofs.Common.{◌≡◌, ℕ, zero, suc, ◌+◌, ◌<◌, ◌≤◌, Bool, true, false, not, ◌&&◌, List, [], ◌∷◌, map, Option, Some, None, refl, sym, ap, ap₂, ◌∙◌, subst, arith, true≢false, ◌⊎◌, inl, inr}
+use Rattle.std.proofs.Common.{◌≡◌, ℕ, true, false, not, List, [], Some, refl, sym, ap, ◌∙◌, subst, arith, true≢false}
 use Rattle.std.specs.Prelude.{slice_get, Contains}
 use Rattle.c_types.specs.declared.tree.Unit.{Unit as Whole}
 use Rattle.c_lexer.specs.declared.token.Token.{Token}
@@ -14,8 +14,8 @@ use Rattle.c_typing.specs.Shapes.{Category}
 use Rattle.c_typing.specs.ShapesOfNodes.{category_at}
 use Rattle.c_typing.specs.Meant.{IsSound, has_form, judgements, IsMeant}
 use Rattle.c_typing.proofs.ProgressForms.{fits, may_fill, split}
-use Rattle.c_typing.proofs.ProgressAll.{AreShaped, no_fault, all_meant, found_at}
-use Rattle.c_typing.proofs.ProgressPlaces.{AreLinked, are_linked}
+use Rattle.c_typing.proofs.ProgressAll.{no_fault, all_meant, found_at}
+use Rattle.c_typing.proofs.ProgressPlaces.{are_linked}
 use Rattle.c_typing.proofs.ProgressInitials.{specials}
 
 no : {A : Type 0} → false ≡ true → A

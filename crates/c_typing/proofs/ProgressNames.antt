@@ -1,19 +1,17 @@
 -- Names, strings and initializers: where what they name or initialize is known, and no rule is broken, each has a meaning.
-use Rattle.std.proofs.Common.{◌≡◌, ℕ, zero, suc, ◌+◌, Bool, true, false, ◌&&◌, ◌||◌, not, List, [], ◌∷◌, ◌++◌, length, map, Option, Some, None, refl, sym, ap, ap₂, ◌∙◌, subst, true≢false}
-use Rattle.std.specs.Prelude.{slice_get, unwrap_or, if◌then◌else◌}
+use Rattle.std.proofs.Common.{◌≡◌, ℕ, Bool, true, false, List, [], ◌∷◌, ◌++◌, length, map, Option, Some, None, refl, sym, subst, true≢false}
 use Rattle.std.specs.List.{range_with_len}
 use Rattle.c_syntax.specs.declared.kind.SynKind.{SynKind}
 use Rattle.c_types.specs.Forms.{const}
 use Rattle.c_typing.specs.Types.{CType, is_function, int}
 use Rattle.c_typing.specs.Rules.{function_as_value, not_a_function, unknown_name, bad_initializer}
 use Rattle.c_typing.specs.Places.{Node, kid, has_kid, node_at}
-use Rattle.c_typing.specs.Names.{Places, Name, Entity, typedef_name, function_name, static_object, automatic, parameter, enumerator, is_static, denoted, name_of}
-use Rattle.c_typing.specs.Judgements.{callee, no_constant, rule, Fault, Meaning, expresses, initial, initialized, fills_array, Judgement, means, waits, verdict, given, typing_at, type_at, judgement_at, layouts}
+use Rattle.c_typing.specs.Names.{Places, Name, Entity, typedef_name, function_name, static_object, automatic, parameter, enumerator, is_static, name_of}
+use Rattle.c_typing.specs.Judgements.{callee, no_constant, rule, Fault, initial, initialized, fills_array, Judgement, means, verdict, type_at, judgement_at, layouts}
 use Rattle.c_typing.specs.Expressions.{is_called, callee_of, type_of_name, word_of_enumerator, variable_by, variable, expression, number_of_type, literal}
-use Rattle.c_typing.specs.Initializers.{is_object, target, fills, string, Part, part_for, kid_part, too_many, init_around, is_static_name, braces_for, braces_by, braces, initialized_object, init_by, init_declarator, bare_code}
+use Rattle.c_typing.specs.Initializers.{is_object, target, fills, string, part_for, kid_part, too_many, init_around, is_static_name, braces_for, braces_by, braces, initialized_object, init_by, init_declarator, bare_code}
 use Rattle.c_typing.specs.Shapes as category
 use Rattle.c_typing.specs.Shapes.{Category}
-use Rattle.c_typing.specs.Meant.{is_callable}
 use Rattle.c_typing.proofs.ProgressBase.{Settles, settled, verdict_settles, besides_settles, given_settles, AllThere, all_there}
 use Rattle.c_typing.proofs.ProgressForms.{fits, may_fill, Has}
 use Rattle.c_typing.proofs.ProgressExpressions.{expressed}

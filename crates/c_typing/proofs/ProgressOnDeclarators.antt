@@ -1,29 +1,24 @@
 -- Declarations, specs and declarators of each kind, where they are reached.
-use Rattle.std.proofs.Common.{◌≡◌, ℕ, zero, suc, ◌+◌, Bool, true, false, ◌&&◌, ◌||◌, not, List, [], ◌∷◌, ◌++◌, length, map, Option, Some, None, refl, sym, ap, ap₂, ◌∙◌, subst, true≢false}
-use Rattle.std.specs.Prelude.{slice_get, get_or, unwrap_or, if◌then◌else◌, drop, option_map, nat_le}
+use Rattle.std.proofs.Common.{◌≡◌, ℕ, true, false, List, [], ◌∷◌, map, refl, sym, ap, ◌∙◌, subst, true≢false}
+use Rattle.std.specs.Prelude.{slice_get, get_or, option_map}
 use Rattle.std.specs.List.{list_all}
 use Rattle.std.specs.Option.{is_some}
 use Rattle.c_syntax.specs.declared.kind.SynKind.{SynKind}
 use Rattle.c_syntax.specs.declared.kind.SynKind.TheVariants as kind
-use Rattle.c_types.specs.Forms.{drop_expr}
-use Rattle.c_typing.specs.Types.{CType}
-use Rattle.c_typing.specs.Places.{text_at, Node, node_at, kind_at, kid, has_kid, other_kids, is_declarator}
-use Rattle.c_typing.specs.Names.{Places, Name, denoted}
-use Rattle.c_typing.specs.Judgements.{Judgement, means, expresses, itself, Typing, judgement_at, typing_at, type_at, typing_of, code_at}
-use Rattle.c_typing.specs.Conversions.{value_of}
-use Rattle.c_typing.specs.Expressions.{expression, word_of_enumerator, number_of_type, integer_type}
+use Rattle.c_typing.specs.Places.{text_at, Node, node_at, kind_at, kid}
+use Rattle.c_typing.specs.Names.{Places}
+use Rattle.c_typing.specs.Judgements.{Judgement, judgement_at, typing_at, type_at}
+use Rattle.c_typing.specs.Expressions.{word_of_enumerator}
 use Rattle.c_typing.specs.Declarators.{spec_meaning, members_of, member_at}
-use Rattle.c_typing.specs.Statements.{as_one, empty_statement, declarator_code, item_at, for_part, part_by, first_by}
-use Rattle.c_typing.specs.Typing.{judged_by, in_parentheses}
+use Rattle.c_typing.specs.Statements.{declarator_code}
+use Rattle.c_typing.specs.Typing.{judged_by}
 use Rattle.c_typing.specs.Shapes as category
 use Rattle.c_typing.specs.Shapes.{Category, no_category, category_by, kids_fit, text_fits, is_declarator as is_whole_declarator, is_init_declarator, is_member, is_enumerator, is_parameter, declarator_over}
-use Rattle.c_typing.proofs.ProgressBase.{Settles, settled, verdict_settles, given_settles, besides_settles}
+use Rattle.c_typing.proofs.ProgressBase.{Settles}
 use Rattle.c_typing.proofs.ProgressForms as form
 use Rattle.c_typing.proofs.ProgressForms.{fits, holds_initial, is_some_expression, HasTyping, Has, is_code, has_type, is_part, is_specifier, is_item}
 use Rattle.c_typing.proofs.ProgressKinds as of
 use Rattle.c_typing.proofs.ProgressKinds.{Operand, Code, rest, is_for_part, is_for_first, part_over}
-use Rattle.c_typing.proofs.ProgressOperators.{of_binary_operator, of_assignment}
-use Rattle.c_typing.proofs.ProgressExpressions as expr
 use Rattle.c_typing.proofs.ProgressStatements as stmt
 use Rattle.c_typing.proofs.ProgressDeclarators as decl
 use Rattle.c_typing.proofs.ProgressNames as name

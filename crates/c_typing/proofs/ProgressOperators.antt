@@ -1,11 +1,11 @@
 -- Each text that an operator may have is in the table of operators.
-use Rattle.std.proofs.Common.{◌≡◌, ℕ, zero, suc, Bool, true, false, ◌&&◌, ◌||◌, not, List, [], ◌∷◌, ◌++◌, length, Option, Some, None, refl, sym, ap, ◌∙◌, subst, arith, true≢false}
+use Rattle.std.proofs.Common.{◌≡◌, ℕ, suc, Bool, true, false, ◌||◌, List, [], ◌∷◌, ◌++◌, length, Some, refl, sym, ◌∙◌, subst, true≢false}
 use Rattle.std.specs.Prelude.{nat_le, find, if◌then◌else◌, codes, ◌==◌}
 use Rattle.std.specs.List.{list_any}
 use Rattle.std.specs.Str.{bytes_eq}
 use Rattle.std.proofs.lemmas.Slice.Eq.{bytes_eq-Decides}
 use Rattle.c_grammar.specs.Vocabulary.{is_among}
-use Rattle.c_typing.specs.Conversions.{Operator, operators, operator_of}
+use Rattle.c_typing.specs.Conversions.{operators, operator_of}
 use Rattle.c_typing.specs.Expressions.{before_equal}
 use Rattle.c_typing.specs.Shapes.{binary_level, binary_operators, place_among, is_assignment}
 use Rattle.c_typing.proofs.ProgressForms.{Has}

@@ -1,25 +1,16 @@
 -- What declarators and enumerators belong to, and what stands before them there.
-use Rattle.std.proofs.Common.{◌≡◌, ℕ, zero, suc, ◌+◌, ◌<◌, ◌≤◌, Bool, true, false, not, ◌&&◌, List, [], ◌∷◌, length, map, Option, Some, None, refl, sym, ap, ap₂, ◌∙◌, subst, arith, true≢false, ◌⊎◌, inl, inr}
-use Rattle.std.specs.Prelude.{slice_get, get_or, unwrap_or, take, position, ◌==◌}
-use Rattle.std.specs.List.{list_all}
-use Rattle.std.proofs.lemmas.List.Quantifiers.{position-Some}
-use Rattle.std.proofs.lemmas.Bool.Decides.{Decides-eqb}
-use Rattle.std.proofs.lemmas.Option.{slice_get-get_or}
+use Rattle.std.proofs.Common.{◌≡◌, ℕ, zero, suc, ◌<◌, Bool, true, false, not, List, ◌∷◌, length, map, Some, refl, sym, ap, ◌∙◌, subst, arith, true≢false, ◌⊎◌, inl, inr}
+use Rattle.std.specs.Prelude.{slice_get, get_or, unwrap_or}
 use Rattle.c_syntax.specs.declared.kind.SynKind.{SynKind}
 use Rattle.c_syntax.specs.declared.kind.SynKind.TheVariants as kind
-use Rattle.c_typing.specs.Places.{Node, nowhere, node_at, kind_at, parent_of, kid, index_in, specs_by, specs_of, is_declarator, is_init}
-use Rattle.c_typing.specs.Names.{Places}
-use Rattle.c_typing.specs.Judgements.{Judgement, judgement_at, type_of, type_at}
-use Rattle.c_typing.specs.Expressions.{word_of_enumerator}
-use Rattle.c_typing.specs.Typing.{judgements_at}
+use Rattle.c_typing.specs.Places.{Node, node_at, kind_at, parent_of, kid, specs_by, specs_of, is_declarator, is_init}
 use Rattle.c_typing.specs.Shapes as category
 use Rattle.c_typing.specs.Shapes.{Category, no_category, category_by, kids_fit, stands_in, is_init_declarator, is_enumerator}
-use Rattle.c_typing.proofs.ProgressBase.{earlier_at}
-use Rattle.c_typing.proofs.ProgressForms.{fits, is_part, Has, has_type, has_its_type, has_word}
+use Rattle.c_typing.proofs.ProgressForms.{is_part}
 use Rattle.c_typing.proofs.ProgressKinds as of
-use Rattle.c_typing.proofs.ProgressStep.{At, at_index, at_all}
-use Rattle.c_typing.proofs.ProgressAll.{AreShaped, Meant, found_at}
-use Rattle.c_typing.proofs.ProgressPlaces.{Linked, AreLinked, kid_at, kids_apart, parent_above, first_low, stands, get_or_at, some_same, compare}
+use Rattle.c_typing.proofs.ProgressStep.{at_index}
+use Rattle.c_typing.proofs.ProgressAll.{found_at}
+use Rattle.c_typing.proofs.ProgressPlaces.{Linked, AreLinked, kids_apart, parent_above, first_low, stands, some_same}
 use Rattle.c_typing.proofs.ProgressKids.{kid_of}
 
 no : {A : Type 0} → false ≡ true → A

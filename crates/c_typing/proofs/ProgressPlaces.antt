@@ -1,24 +1,21 @@
 -- Where the nodes of a derived tree stand: their parents, and what stands before them.
-use Rattle.std.proofs.Common.{◌≡◌, ℕ, zero, suc, ◌+◌, ◌<◌, ◌≤◌, Bool, true, false, not, List, [], ◌∷◌, ◌++◌, length, map, Option, Some, None, refl, sym, ap, ap₂, ◌∙◌, subst, arith, true≢false, ◌⊎◌, inl, inr}
-use Rattle.std.specs.Prelude.{slice_get, get_or, unwrap_or}
-use Rattle.std.specs.List.{list_all}
+use Rattle.std.proofs.Common.{◌≡◌, ℕ, zero, suc, ◌+◌, ◌<◌, ◌≤◌, true, List, [], ◌∷◌, ◌++◌, length, map, Some, refl, sym, ap, ◌∙◌, subst, arith, ◌⊎◌, inl, inr}
+use Rattle.std.specs.Prelude.{slice_get, get_or}
 use Rattle.c_lexer.specs.declared.token.Token.{Token}
-use Rattle.c_syntax.specs.declared.kind.SynKind.{SynKind}
-use Rattle.c_syntax.specs.declared.kind.SynKind.TheVariants as kind
 use Rattle.c_syntax.specs.Trees.{Tree, none, one}
 use Rattle.c_syntax.specs.Tables.{size, table_of}
 use Rattle.c_grammar.specs.Derivation.{IsTreeOf}
-use Rattle.c_typing.specs.Places.{Node, nowhere, nodes, node_at, kind_at, parent_of, kid}
+use Rattle.c_typing.specs.Places.{Node, nodes}
 use Rattle.c_typing.specs.Shapes as category
 use Rattle.c_typing.specs.Shapes.{Category, no_category, categories_of, stands_in, begins_with}
-use Rattle.c_typing.specs.ShapesOfNodes.{category_at, HasParent, IsPlaced}
+use Rattle.c_typing.specs.ShapesOfNodes.{category_at}
 use Rattle.c_typing.proofs.ShapesLaw.{root_is_unit}
 use Rattle.c_typing.proofs.ShapesParents.{kids_stand}
 use Rattle.c_typing.proofs.ShapesNodes as by_place
 use Rattle.c_typing.proofs.ShapesNodes.{node_placed, node_has_parent}
-use Rattle.c_typing.proofs.ProgressKids.{Tiled, KidAt, KidsFrom, low, Kid, kid_of}
+use Rattle.c_typing.proofs.ProgressKids.{KidAt, KidsFrom, low}
 use Rattle.c_typing.proofs.ProgressStep.{at_all}
-use Rattle.c_typing.proofs.ProgressAll.{AreShaped, of_derived, found_at}
+use Rattle.c_typing.proofs.ProgressAll.{AreShaped, of_derived}
 
 -- the node m, at the place n, is the kid of this index of its parent
 pub record Linked (ns : List Node) (n : ℕ) (m : Node) : Type 0 where

@@ -1,36 +1,22 @@
 -- What the meaning of a node is made of beside its kids is there, where those before it have meanings.
-use Rattle.std.proofs.Common.{◌≡◌, ℕ, zero, suc, ◌+◌, ◌-◌, ◌<◌, ◌≤◌, Bool, true, false, not, ◌&&◌, ◌||◌, List, [], ◌∷◌, ◌++◌, length, map, Option, Some, None, refl, sym, ap, ap₂, ◌∙◌, subst, arith, true≢false, ◌⊎◌, inl, inr}
-use Rattle.std.specs.Prelude.{slice_get, get_or, unwrap_or, take, find, filter, ◌==◌, if◌then◌else◌, position}
-use Rattle.std.specs.Option.{is_some}
-use Rattle.std.specs.List.{list_any, list_all}
-use Rattle.std.proofs.lemmas.Bool.Decides.{Decides-eqb}
-use Rattle.std.proofs.lemmas.List.Quantifiers.{position-Some}
-use Rattle.c_syntax.specs.declared.kind.SynKind.{SynKind}
+use Rattle.std.proofs.Common.{◌≡◌, ℕ, zero, suc, ◌<◌, ◌≤◌, Bool, true, false, List, [], length, Some, refl, sym, ap, ◌∙◌, subst, arith, true≢false, inl, inr}
+use Rattle.std.specs.Prelude.{slice_get, take, filter}
 use Rattle.c_syntax.specs.declared.kind.SynKind.TheVariants as kind
-use Rattle.c_typing.specs.Types.{CType, is_text_array, is_scalar}
-use Rattle.c_typing.specs.Places.{Node, nowhere, node_at, kind_at, parent_of, kid, has_kid, index_in, specs_of, is_function, whole_declarator, scope_at}
-use Rattle.c_typing.specs.Names.{Entity, typedef_name, function_name, static_object, automatic, parameter, enumerator, Name, Places, is_static, is_typedef, denoted, names_from, names_by, declared_name, name_list, entity_by, declared_entity, declares_function, name_of, function_around}
-use Rattle.c_typing.specs.Judgements.{fills_array, means, Judgement, judgement_at, type_at, type_of, layouts}
+use Rattle.c_typing.specs.Types.{CType, is_text_array}
+use Rattle.c_typing.specs.Places.{Node, node_at, kind_at, parent_of, is_function}
+use Rattle.c_typing.specs.Names.{Entity, typedef_name, function_name, static_object, automatic, parameter, enumerator, Name, Places, is_typedef, denoted, names_from}
+use Rattle.c_typing.specs.Judgements.{fills_array, means, Judgement, judgement_at}
 use Rattle.c_typing.specs.Expressions.{type_of_name}
-use Rattle.c_typing.specs.Initializers.{fills, Part, part_of, part_for, kid_part, target, target_within, is_object, init_around, is_static_name}
+use Rattle.c_typing.specs.Initializers.{fills, target}
 use Rattle.c_typing.specs.Typing.{judgements_at, judged_by}
-use Rattle.c_typing.specs.Shapes as category
-use Rattle.c_typing.specs.Shapes.{Category, no_category, category_by, kids_fit}
-use Rattle.c_typing.proofs.ProgressBase.{judged_at, earlier_at, AllThere}
-use Rattle.c_typing.proofs.ProgressForms.{fits, may_fill, Has, has_type, has_its_type}
-use Rattle.c_typing.proofs.ProgressKinds as of
-use Rattle.c_typing.proofs.ProgressOperators.{found}
-use Rattle.c_typing.proofs.ProgressNames.{Known, HasParts, IsInitial}
-use Rattle.c_typing.proofs.ProgressStep.{KidHas, Special, at_all, has_at}
-use Rattle.c_typing.proofs.ProgressAll.{AreShaped, Meant, found_at, kid_has}
-use Rattle.c_typing.proofs.ProgressKids.{KidsFrom, Kid, kid_of}
-use Rattle.c_typing.proofs.ProgressPlaces.{AreLinked, within, some_same}
-use Rattle.c_typing.proofs.ProgressBefore.{specified, enumerated}
-use Rattle.c_typing.proofs.ProgressAround.{is_body, function_typed}
-use Rattle.c_typing.proofs.ProgressDeclared.{is_enumerator_entity, AllNames, Stands, IsEnumerator, IsDeclaredName, of_denoted, begins_before, all_names_stand, typed_name, valued_name}
-use Rattle.c_typing.proofs.ProgressInitial.{has_part, string_fills, filled_type, fills_in, of_parent, init_target, braces_target, all_parts, kid_part_there}
-use Rattle.c_typing.proofs.ProgressTargets.{target_later, parts_later, typed_later}
-use Rattle.c_typing.proofs.ProgressInside.{InitName, init_name, any_from}
+use Rattle.c_typing.specs.Shapes.{Category}
+use Rattle.c_typing.proofs.ProgressBase.{judged_at, earlier_at}
+use Rattle.c_typing.proofs.ProgressForms.{may_fill, Has}
+use Rattle.c_typing.proofs.ProgressNames.{Known}
+use Rattle.c_typing.proofs.ProgressAll.{Meant, found_at}
+use Rattle.c_typing.proofs.ProgressPlaces.{AreLinked, within}
+use Rattle.c_typing.proofs.ProgressDeclared.{is_enumerator_entity, AllNames, Stands, IsDeclaredName, of_denoted, begins_before, all_names_stand, typed_name, valued_name}
+use Rattle.c_typing.proofs.ProgressInitial.{string_fills, filled_type, fills_in, of_parent}
 
 no : {A : Type 0} → false ≡ true → A
 no e = absurd (true≢false (sym e))

@@ -1,17 +1,15 @@
 -- Each kind of statement: where its parts have meanings, and it breaks no rule, it has one.
-use Rattle.std.proofs.Common.{◌≡◌, ℕ, zero, suc, Bool, true, false, ◌&&◌, ◌||◌, not, List, [], ◌∷◌, length, map, Option, Some, None, refl, sym, ap, ◌∙◌, subst, true≢false}
-use Rattle.std.specs.Prelude.{get_or, slice_get, unwrap_or, if◌then◌else◌, option_map, codes}
+use Rattle.std.proofs.Common.{◌≡◌, ℕ, Bool, true, false, ◌||◌, List, [], map, Some, refl, sym, ap, true≢false}
+use Rattle.std.specs.Prelude.{if◌then◌else◌, option_map, codes}
 use Rattle.c_typing.specs.Rules.{bad_operand}
 use Rattle.c_syntax.specs.declared.kind.SynKind.{SynKind}
-use Rattle.c_syntax.specs.declared.kind.SynKind.TheVariants as kind
 use Rattle.c_types.specs.declared.tree.Stmt.{Stmt}
-use Rattle.c_types.specs.declared.tree.Expr.{Expr}
 use Rattle.c_typing.specs.Types.{CType, is_integer}
 use Rattle.c_typing.specs.Places.{Node, kid, has_kid, other_kids, says, node_at, kind_at}
 use Rattle.c_typing.specs.Names.{Places, function_around}
-use Rattle.c_typing.specs.Judgements.{Meaning, performs, labels, Fault, Judgement, means, waits, Typing, verdict, given, besides, all_of, typing_at, code_at, type_at, judgement_at}
+use Rattle.c_typing.specs.Judgements.{performs, Fault, Judgement, means, verdict, typing_at, code_at, type_at, judgement_at}
 use Rattle.c_typing.specs.Conversions.{value_of}
-use Rattle.c_typing.specs.Statements.{condition_faults, test_faults, as_one, does, statement_at, declarator_code, declaration, block_node, expression_statement, empty_statement, if_statement, while_statement, do_statement, part_by, for_part, first_by, for_statement, break_statement, continue_statement, return_by, return_statement, result_type_of, case_label, default_label, item_at, switch_statement}
+use Rattle.c_typing.specs.Statements.{condition_faults, test_faults, as_one, does, statement_at, declarator_code, declaration, block_node, expression_statement, empty_statement, if_statement, while_statement, do_statement, for_part, first_by, for_statement, break_statement, continue_statement, return_by, return_statement, result_type_of, case_label, default_label, item_at, switch_statement}
 use Rattle.c_typing.specs.Shapes as category
 use Rattle.c_typing.specs.Shapes.{Category}
 use Rattle.c_typing.proofs.ProgressBase.{Settles, settled, verdict_settles, besides_settles, given_settles, AllThere, all_there}

@@ -1,28 +1,21 @@
 -- A node of each kind has a meaning of its form, where those before it have, and it breaks no rule.
-use Rattle.std.proofs.Common.{◌≡◌, ℕ, zero, suc, ◌+◌, Bool, true, false, ◌&&◌, ◌||◌, not, List, [], ◌∷◌, ◌++◌, length, map, Option, Some, None, refl, sym, ap, ap₂, ◌∙◌, subst, true≢false}
-use Rattle.std.specs.Prelude.{slice_get, get_or, unwrap_or, if◌then◌else◌, drop, option_map, nat_le}
+use Rattle.std.proofs.Common.{◌≡◌, ℕ, zero, suc, Bool, true, false, not, List, [], ◌∷◌, map, Option, Some, None, refl, sym, ap, ◌∙◌, subst, true≢false}
+use Rattle.std.specs.Prelude.{slice_get, get_or, unwrap_or, drop}
 use Rattle.std.specs.List.{list_all}
 use Rattle.std.specs.Option.{is_some}
 use Rattle.c_syntax.specs.declared.kind.SynKind.{SynKind}
 use Rattle.c_syntax.specs.declared.kind.SynKind.TheVariants as kind
-use Rattle.c_grammar.specs.Vocabulary.{is_type_word, is_storage_word}
 use Rattle.c_typing.specs.Types.{CType}
-use Rattle.c_typing.specs.Places.{Node, node_at, kind_at, kid, has_kid, other_kids, parent_of, index_in, specs_of, is_declarator}
+use Rattle.c_typing.specs.Places.{Node, node_at, kind_at, kid, other_kids, parent_of, index_in, specs_of, is_declarator}
 use Rattle.c_typing.specs.Names.{Places, Name, is_typedef, denoted, function_around}
-use Rattle.c_typing.specs.Judgements.{fills_array, Judgement, means, waits, Typing, Meaning, typing_of, type_of, steps_of, code_of, judgement_at, typing_at, type_at, steps_at, code_at}
-use Rattle.c_typing.specs.Conversions.{value_of, operator_of}
-use Rattle.c_typing.specs.Expressions.{type_of_name, before_equal, word_of_enumerator}
-use Rattle.c_typing.specs.Declarators.{spec_meaning, members_of, member_at}
+use Rattle.c_typing.specs.Judgements.{fills_array, Judgement, judgement_at, typing_at, type_at, steps_at, code_at}
+use Rattle.c_typing.specs.Expressions.{type_of_name, word_of_enumerator}
 use Rattle.c_typing.specs.Initializers.{target, fills}
-use Rattle.c_typing.specs.Statements.{declarator_code, item_at, for_part, part_by, first_by}
-use Rattle.c_typing.specs.Typing.{judged_by}
-use Rattle.c_typing.specs.Shapes as category
-use Rattle.c_typing.specs.Shapes.{Category, no_category, category_by, kids_fit, text_fits, is_init_declarator, is_member, is_enumerator, is_declarator as is_whole_declarator, is_parameter}
-use Rattle.c_typing.proofs.ProgressBase.{Settles, settled, given_settles, besides_settles, AllThere, no_part, and_part}
-use Rattle.c_typing.proofs.ProgressForms.{fits, may_fill, holds_initial, is_some_expression, HasTyping, typed, Has, is_code, performed, has_type, has_its_type, is_part, has_steps, is_specifier, has_specifier, has_members, has_word, has_declared, is_item, has_item, untyped}
+use Rattle.c_typing.specs.Shapes.{Category, no_category, category_by}
+use Rattle.c_typing.proofs.ProgressBase.{AllThere, no_part, and_part}
+use Rattle.c_typing.proofs.ProgressForms.{fits, may_fill, holds_initial, is_some_expression, HasTyping, typed, Has, is_code, performed, has_type, has_its_type, is_part, has_steps}
 use Rattle.c_typing.proofs.ProgressKinds as of
 use Rattle.c_typing.proofs.ProgressKinds.{Operand, Code, rest, is_for_part, is_for_first, is_other, is_plain, other_kind, part_expression, first_expression, part_over}
-use Rattle.c_typing.proofs.ProgressOperators.{of_binary_operator, of_assignment}
 use Rattle.c_typing.proofs.ProgressNames.{Known, HasParts, IsInitial}
 
 no : {A : Type 0} → false ≡ true → A

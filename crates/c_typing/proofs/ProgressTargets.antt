@@ -1,14 +1,13 @@
 -- What braces and strings initialize: it stays the same while more nodes are judged.
-use Rattle.std.proofs.Common.{◌≡◌, ℕ, zero, suc, ◌+◌, ◌<◌, ◌≤◌, Bool, true, false, not, ◌&&◌, ◌||◌, List, [], ◌∷◌, ◌++◌, length, map, Option, Some, None, refl, sym, ap, ap₂, ◌∙◌, subst, arith, true≢false, ◌⊎◌, inl, inr}
-use Rattle.std.specs.Prelude.{slice_get, get_or, unwrap_or, take, filter_map, find, ◌==◌, if◌then◌else◌, option_map, option_and_then, position}
-use Rattle.std.specs.Option.{is_some}
+use Rattle.std.proofs.Common.{◌≡◌, ℕ, zero, suc, ◌+◌, ◌≤◌, Bool, true, false, List, [], ◌∷◌, ◌++◌, Option, Some, None, refl, ap, ◌∙◌, subst, arith}
+use Rattle.std.specs.Prelude.{slice_get, take, find, ◌==◌, if◌then◌else◌, option_map, option_and_then}
 use Rattle.c_syntax.specs.declared.kind.SynKind.{SynKind}
 use Rattle.c_syntax.specs.declared.kind.SynKind.TheVariants as kind
 use Rattle.c_typing.specs.Types.{CType, array, unsized, struct, Field, Layout, layout_of}
-use Rattle.c_typing.specs.Places.{Node, kid, parent_of, index_in, node_at}
+use Rattle.c_typing.specs.Places.{Node, kid, parent_of, index_in}
 use Rattle.c_typing.specs.Names.{Places, Name}
-use Rattle.c_typing.specs.Judgements.{Meaning, a_struct, means, breaks_rules, waits, Judgement, judgement_at, layout_in, layouts, type_at, type_of}
-use Rattle.c_typing.specs.Initializers.{is_text_alone, part_type, part_of, declared_object, target_by, target_within, target}
+use Rattle.c_typing.specs.Judgements.{Meaning, a_struct, means, breaks_rules, waits, Judgement, layouts, type_at}
+use Rattle.c_typing.specs.Initializers.{is_text_alone, part_type, part_of, declared_object, target_by, target_within}
 
 layouts_front : (js rest : List Judgement) → layouts (js ++ rest) ≡ layouts js ++ layouts rest
 layouts_front [] rest = refl

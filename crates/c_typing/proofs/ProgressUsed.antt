@@ -1,8 +1,7 @@
 -- What the unit of a tree is put together from is there: the types of objects, and what names in expressions name.
-use Rattle.std.proofs.Common.{◌≡◌, ℕ, zero, suc, ◌+◌, ◌<◌, ◌≤◌, Bool, true, false, not, ◌&&◌, List, [], ◌∷◌, ◌++◌, length, map, Option, Some, None, refl, sym, ap, ap₂, ◌∙◌, subst, arith, true≢false, ◌⊎◌, inl, inr}
-use Rattle.std.specs.Prelude.{slice_get, take, unwrap_or, flat_map, filter, if◌then◌else◌, ◌==◌}
+use Rattle.std.proofs.Common.{◌≡◌, ℕ, zero, suc, Bool, true, false, not, ◌&&◌, List, [], ◌∷◌, length, Option, Some, None, refl, sym, ap, ◌∙◌, subst, true≢false, inl, inr}
+use Rattle.std.specs.Prelude.{slice_get, take, flat_map, if◌then◌else◌, ◌==◌}
 use Rattle.c_lexer.specs.declared.token.Token.{Token}
-use Rattle.c_syntax.specs.declared.kind.SynKind.{SynKind}
 use Rattle.c_syntax.specs.declared.kind.SynKind.TheVariants as kind
 use Rattle.c_syntax.specs.Trees.{Tree}
 use Rattle.c_grammar.specs.Derivation.{IsTreeOf}
@@ -15,12 +14,12 @@ use Rattle.c_typing.proofs.ProgressForms.{Has, has_type, has_its_type}
 use Rattle.c_typing.proofs.ProgressDeclared.{AllNames, Stands, all_names_stand, all_filter}
 use Rattle.c_typing.specs.Expressions.{variable, variable_by}
 use Rattle.c_typing.specs.Rules.{broken_if}
-use Rattle.c_typing.specs.Typing.{judged_by, judgements_at, faults, place_faults_by, place_faults, is_there, use_faults}
+use Rattle.c_typing.specs.Typing.{judged_by, judgements_at, faults, place_faults_by, is_there, use_faults}
 use Rattle.c_typing.specs.ShapesOfNodes.{category_at}
 use Rattle.c_typing.specs.Meant.{judgements, HasType, IsUsed}
 use Rattle.c_typing.proofs.ProgressBase.{judged_at}
 use Rattle.c_typing.proofs.ProgressAll.{fronts_empty, calm_at, no_fault, all_meant}
-use Rattle.c_typing.proofs.ProgressPlaces.{AreLinked, are_linked, within}
+use Rattle.c_typing.proofs.ProgressPlaces.{AreLinked, are_linked}
 use Rattle.c_typing.proofs.ProgressInitials.{specials}
 
 no : {A : Type 0} → false ≡ true → A
@@ -51,6 +50,7 @@ denotes p js m calm = by (denoted p.names m.id m.label.text) refl calm
     entity : (e : Name) (k : Entity) → faults_in (variable_by p js m e k) ≡ [] → is_typedef k ≡ false
     entity e typedef_name h = absurd (cc h)
     entity e _ h = refl
+
     by : (o : Option Name) → denoted p.names m.id m.label.text ≡ o → faults_in (variable p js m o) ≡ [] → Denotes p m
     by None same h = absurd (cc h)
     by (Some e) same h = record { name = e; is = same; value = entity e e.entity h }
@@ -89,13 +89,17 @@ object_typed tokens t k e derived quiet at =
   where
     p : Places
     p = places t
+
     l : AreLinked (category_at t) (nodes t)
     l = are_linked tokens t derived
+
     is_object : Name → Bool
     is_object e = is_static e.entity && length (earlier p e) == 0 && is_defined_object p e
+
     named : (o : Option CType) → Has (type_at (judgements t) e.behind) → Has (if is_some o then o else type_at (judgements t) e.behind)
     named None h = h
     named (Some u) h = record { value = u; is = refl }
+
     by : Stands (category_at t) (nodes t) e → is_static e.entity ≡ true → HasType t e
     by (inl en) static = no (ap is_static (sym en.entity) ∙ static)
     by (inr de) static =

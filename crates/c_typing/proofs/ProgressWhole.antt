@@ -1,18 +1,18 @@
 -- The whole declarator of a name.
-use Rattle.std.proofs.Common.{◌≡◌, ℕ, zero, suc, ◌+◌, ◌<◌, ◌≤◌, Bool, true, false, not, ◌&&◌, List, [], ◌∷◌, length, map, Option, Some, None, refl, sym, ap, ap₂, ◌∙◌, subst, arith, true≢false, ◌⊎◌, inl, inr}
+use Rattle.std.proofs.Common.{◌≡◌, ℕ, zero, suc, ◌≤◌, Bool, true, false, not, List, [], ◌∷◌, length, map, Option, Some, None, refl, sym, ap, ◌∙◌, arith, true≢false, ◌⊎◌, inl, inr}
 use Rattle.std.specs.Prelude.{slice_get, get_or, unwrap_or, filter, ◌==◌, if◌then◌else◌}
 use Rattle.std.specs.List.{list_all, last_or}
 use Rattle.std.proofs.lemmas.Bool.Decides.{Decides-eqb}
 use Rattle.c_syntax.specs.declared.kind.SynKind.{SynKind}
 use Rattle.c_syntax.specs.declared.kind.SynKind.TheVariants as kind
-use Rattle.c_typing.specs.Places.{Node, nowhere, node_at, kind_at, parent_of, is_declarator, in_declarator, whole_declarator}
+use Rattle.c_typing.specs.Places.{Node, nowhere, kind_at, is_declarator, in_declarator, whole_declarator}
 use Rattle.c_typing.specs.Shapes as category
 use Rattle.c_typing.specs.Shapes.{Category, no_category, category_by, kids_fit, declarator_over, in_parentheses, begins_with, at_most_one, is_conditional_expression, is_parameter, is_init_declarator}
 use Rattle.c_typing.proofs.ProgressForms.{is_part, split}
 use Rattle.c_typing.proofs.ProgressKinds as of
-use Rattle.c_typing.proofs.ProgressAll.{AreShaped, found_at}
-use Rattle.c_typing.proofs.ProgressPlaces.{Linked, AreLinked, kid_at, parent_above, first_low, get_or_at, some_same}
-use Rattle.c_typing.proofs.ProgressKids.{KidsFrom, Tiled}
+use Rattle.c_typing.proofs.ProgressAll.{found_at}
+use Rattle.c_typing.proofs.ProgressPlaces.{Linked, AreLinked, parent_above, first_low, get_or_at, some_same}
+use Rattle.c_typing.proofs.ProgressKids.{KidsFrom}
 use Rattle.c_typing.proofs.ShapesBase.{both}
 
 no : {A : Type 0} → false ≡ true → A
