@@ -52,3 +52,5 @@ pub mod BoundsInitializers
 pub mod BoundsKinds
 pub mod BoundsTree
 pub mod ProgressUsed
+pub mod ProgressShapes
+pub mod RowsNames
