@@ -54,3 +54,5 @@ pub mod BoundsTree
 pub mod ProgressUsed
 pub mod ProgressShapes
 pub mod RowsNames
+pub mod ProgressUnique
+pub mod ProgressChecked
