@@ -56,3 +56,4 @@ pub mod ProgressShapes
 pub mod RowsNames
 pub mod ProgressUnique
 pub mod ProgressChecked
+pub mod ProgressNumbers
