@@ -57,3 +57,4 @@ pub mod RowsNames
 pub mod ProgressUnique
 pub mod ProgressChecked
 pub mod ProgressNumbers
+pub mod ProgressObjects

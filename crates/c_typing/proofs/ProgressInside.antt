@@ -151,7 +151,7 @@ word_declares false true e = no e
 word_declares false false e = no e
 
 -- what is a declarator has the kind of one
-kind_declares : (k : SynKind) (text : List ℕ) (cs : List Category) → of.is_declarator_only (category_by k text cs) ≡ true → is_declarator k ≡ true
+pub kind_declares : (k : SynKind) (text : List ℕ) (cs : List Category) → of.is_declarator_only (category_by k text cs) ≡ true → is_declarator k ≡ true
 unfolding category_by
 kind_declares kind.Ident text cs e = refl
 kind_declares kind.NoName text cs e = refl

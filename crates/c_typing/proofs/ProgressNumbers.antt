@@ -18,7 +18,7 @@ pub record InList {A : Type 0} (xs : List A) (x : A) : Type 0 where
   pub index : ℕ
   pub at : slice_get xs index ≡ Some x
 
-in_filter : {A : Type 0} (test : A → Bool) (xs : List A) (x : A) → InList xs x → test x ≡ true → InList (filter test xs) x
+pub in_filter : {A : Type 0} (test : A → Bool) (xs : List A) (x : A) → InList xs x → test x ≡ true → InList (filter test xs) x
 in_filter {A = A} test xs x m e = by xs m.index m.at
   where
     keep : (y : A) (ys : List A) → InList (filter test ys) x → InList (if test y then y ∷ filter test ys else filter test ys) x
@@ -37,7 +37,7 @@ in_filter {A = A} test xs x m e = by xs m.index m.at
             subst (λ (b : Bool). InList (if b then y ∷ filter test ys else filter test ys) x) (sym (ap test equal ∙ e)) (record { index = 0; at = h })
     by (y ∷ ys) (suc k) at = keep y ys (by ys k at)
 
-from_filter : {A : Type 0} (test : A → Bool) (xs : List A) (x : A) → InList (filter test xs) x → InList xs x × (test x ≡ true)
+pub from_filter : {A : Type 0} (test : A → Bool) (xs : List A) (x : A) → InList (filter test xs) x → InList xs x × (test x ≡ true)
 from_filter {A = A} test xs x m = by xs m.index m.at
   where
     by : (ys : List A) (k : ℕ) → slice_get (filter test ys) k ≡ Some x → InList ys x × (test x ≡ true)
@@ -54,7 +54,7 @@ from_filter {A = A} test xs x m = by xs m.index m.at
         cases false e k at f = let r = f k at in (record { index = suc r.0.index; at = r.0.at }, r.1)
 
 -- the last, or there is none
-last_in : {A : Type 0} (xs : List A) → (xs ≡ []) ⊎ ((x : A) × (last_or None xs ≡ Some x) × InList xs x)
+pub last_in : {A : Type 0} (xs : List A) → (xs ≡ []) ⊎ ((x : A) × (last_or None xs ≡ Some x) × InList xs x)
 last_in {A = A} [] = inl refl
 last_in {A = A} (x ∷ xs) = inr (by x xs)
   where
@@ -62,7 +62,7 @@ last_in {A = A} (x ∷ xs) = inr (by x xs)
     by y [] = (y, refl, record { index = 0; at = refl })
     by y (z ∷ zs) = let r = by z zs in (r.0, r.1, record { index = suc r.2.index; at = r.2.at })
 
-place_of : {A : Type 0} (test : A → Bool) (xs : List A) (x : A) → InList xs x → test x ≡ true → Has (position test xs)
+pub place_of : {A : Type 0} (test : A → Bool) (xs : List A) (x : A) → InList xs x → test x ≡ true → Has (position test xs)
 place_of {A = A} test xs x m e = there (position_or_len test xs) refl
   where
     below : (ys : List A) (k : ℕ) → slice_get ys k ≡ Some x → position_or_len test ys < length ys
@@ -87,22 +87,22 @@ place_of {A = A} test xs x m e = there (position_or_len test xs) refl
 
 -- ---- declarations of one object
 
-split_two : (a b : Bool) → (a && b) ≡ true → (a ≡ true) × (b ≡ true)
+pub split_two : (a b : Bool) → (a && b) ≡ true → (a ≡ true) × (b ≡ true)
 split_two true b e = (refl, e)
 split_two false b e = no e
 
-again_same : (a b : Name) → is_again a b ≡ true → (a.text ≡ b.text) × (a.scope.owner ≡ b.scope.owner)
+pub again_same : (a b : Name) → is_again a b ≡ true → (a.text ≡ b.text) × (a.scope.owner ≡ b.scope.owner)
 again_same a b e =
     let es = split_two (bytes_eq a.text b.text) (a.scope.owner == b.scope.owner) e in
     ((bytes_eq-Decides a.text b.text).0 es.0, (Decides-eqb a.scope.owner b.scope.owner).0 es.1)
 
-same_again : (a b : Name) → a.text ≡ b.text → a.scope.owner ≡ b.scope.owner → is_again a b ≡ true
+pub same_again : (a b : Name) → a.text ≡ b.text → a.scope.owner ≡ b.scope.owner → is_again a b ≡ true
 same_again a b t o = ap₂ (λ x y. x && y) ((bytes_eq-Decides a.text b.text).1 t) ((Decides-eqb a.scope.owner b.scope.owner).1 o)
 
 -- the first declaration of an object
-record First (p : Places) (e : Name) : Type 0 where
-  name : Name
-  listed : InList p.names name
-  static : is_static name.entity ≡ true
-  again : is_again name e ≡ true
-  first : earlier p name ≡ []
+pub record First (p : Places) (e : Name) : Type 0 where
+  pub name : Name
+  pub listed : InList p.names name
+  pub static : is_static name.entity ≡ true
+  pub again : is_again name e ≡ true
+  pub first : earlier p name ≡ []

@@ -69,7 +69,7 @@ used t n m quiet e same =
 
 -- ---- objects
 
-at_name : (P : Name → Type 0) (es : List Name) (k : ℕ) (e : Name) → AllNames P es → slice_get es k ≡ Some e → P e
+pub at_name : (P : Name → Type 0) (es : List Name) (k : ℕ) (e : Name) → AllNames P es → slice_get es k ≡ Some e → P e
 at_name P [] k e h at = absurd (cc at)
 at_name P (x ∷ es) zero e h at = same at
   where
