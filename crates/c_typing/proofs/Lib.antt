@@ -58,3 +58,4 @@ pub mod ProgressUnique
 pub mod ProgressChecked
 pub mod ProgressNumbers
 pub mod ProgressObjects
+pub mod ProgressUses

@@ -1,14 +1,14 @@
 -- What is asked of what a whole declarator declares holds, where it has a type and no rule is broken.
-use Rattle.std.proofs.Common.{◌≡◌, ℕ, zero, suc, ◌+◌, Bool, true, false, not, ◌&&◌, ◌||◌, List, [], ◌∷◌, ◌++◌, length, map, Option, Some, None, refl, sym, ap, ap₂, ◌∙◌, subst, true≢false}
-use Rattle.std.specs.Prelude.{slice_get, unwrap_or, take, if◌then◌else◌, filter_map}
+use Rattle.std.proofs.Common.{◌≡◌, Bool, true, false, List, [], ◌∷◌, ◌++◌, length, map, Option, Some, None, refl, sym, ap, true≢false}
+use Rattle.std.specs.Prelude.{if◌then◌else◌, filter_map}
 use Rattle.c_syntax.specs.declared.kind.SynKind.{SynKind}
 use Rattle.c_syntax.specs.declared.kind.SynKind.TheVariants as kind
 use Rattle.c_typing.specs.Types.{CType}
 use Rattle.c_typing.specs.Places.{Node, kid, has_kid, other_kids, parent_of, specs_of, is_whole, is_declarator}
-use Rattle.c_typing.specs.Names.{Places, Name, name_of}
-use Rattle.c_typing.specs.Judgements.{Fault, Typing, Meaning, declares, steps, expresses, PlacedStep, Step, of_function, Judgement, means, breaks_rules, waits, verdict, given, besides, all_of, typing_at, type_at, steps_at, layouts, typing_of}
+use Rattle.c_typing.specs.Names.{Places, name_of}
+use Rattle.c_typing.specs.Judgements.{Fault, Typing, Meaning, declares, steps, expresses, PlacedStep, Judgement, means, breaks_rules, waits, verdict, given, besides, all_of, typing_at, type_at, steps_at, layouts}
 use Rattle.c_typing.specs.Rules.{many_parameters, bad_parameter, absent_length}
-use Rattle.c_typing.specs.Declarators.{Built, built, whole_by, whole_type, declarator, build, with_step, adjusted, pointer_declarator, is_parameter_length, is_given_by_initializer, absent_length_step, length_faults, length_step, array_declarator, function_declarator}
+use Rattle.c_typing.specs.Declarators.{built, whole_by, whole_type, declarator, build, adjusted, pointer_declarator, is_parameter_length, is_given_by_initializer, absent_length_step, length_faults, length_step, array_declarator, function_declarator}
 use Rattle.c_typing.specs.Typing.{judged_by, in_parentheses}
 
 -- what is asked of the declarator is kept
@@ -60,6 +60,7 @@ module _ (p : Places) (js : List Judgement) (node : Node) where
       is_step : Judgement → Bool
       is_step (means (steps ss)) = true
       is_step j = false
+
       no_step : {t : CType} → means (steps ss) ≡ means (declares t) → ⊥
       no_step e = true≢false (ap is_step e)
 
@@ -81,6 +82,7 @@ module _ (p : Places) (js : List Judgement) (node : Node) where
       is_value : Judgement → Bool
       is_value (means (expresses x h)) = true
       is_value j = false
+
       no_value : {t : CType} → means (expresses x 0) ≡ means (declares t) → ⊥
       no_value e = true≢false (ap is_value e)
 

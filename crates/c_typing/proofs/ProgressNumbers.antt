@@ -1,13 +1,12 @@
 -- Each object that is used and defined has a number: it is declared again of the first of its declarations.
-use Rattle.std.proofs.Common.{◌≡◌, ℕ, zero, suc, ◌+◌, ◌<◌, ◌≤◌, Bool, true, false, not, ◌&&◌, ◌||◌, List, [], ◌∷◌, ◌++◌, length, map, Option, Some, None, refl, sym, ap, ap₂, ◌∙◌, subst, arith, true≢false, ◌⊎◌, inl, inr, zero-add}
-use Rattle.std.specs.Prelude.{slice_get, unwrap_or, take, find, filter, position, nat_lt, ◌==◌, if◌then◌else◌}
-use Rattle.std.specs.Option.{is_some}
+use Rattle.std.proofs.Common.{◌≡◌, ℕ, zero, suc, ◌+◌, ◌<◌, Bool, true, false, not, ◌&&◌, List, [], ◌∷◌, length, Some, None, refl, sym, ap, ap₂, ◌∙◌, subst, arith, true≢false, ◌⊎◌, inl, inr}
+use Rattle.std.specs.Prelude.{slice_get, filter, position, nat_lt, ◌==◌, if◌then◌else◌}
 use Rattle.std.specs.List.{last_or, position_or_len}
 use Rattle.std.specs.Str.{bytes_eq}
 use Rattle.std.proofs.lemmas.Bool.Decides.{Decides-eqb, nat_tests}
 use Rattle.std.proofs.lemmas.Slice.Eq.{bytes_eq-Decides}
 use Rattle.c_typing.proofs.ProgressForms.{Has}
-use Rattle.c_typing.specs.Names.{Name, Places, is_again, is_static, earlier, defines_object, is_defined_object, objects_of, object_number}
+use Rattle.c_typing.specs.Names.{Name, Places, is_again, is_static, earlier}
 
 no : {A : Type 0} → false ≡ true → A
 no e = absurd (true≢false (sym e))
@@ -27,6 +26,7 @@ in_filter {A = A} test xs x m e = by xs m.index m.at
         cases : (b : Bool) → InList (if b then y ∷ filter test ys else filter test ys) x
         cases true = record { index = suc r.index; at = r.at }
         cases false = r
+
     by : (ys : List A) (k : ℕ) → slice_get ys k ≡ Some x → InList (filter test ys) x
     by [] k at = absurd (cc at)
     by (y ∷ ys) zero at = same at
@@ -79,6 +79,7 @@ place_of {A = A} test xs x m e = there (position_or_len test xs) refl
         cases : (b : Bool) → position_or_len test ys < length ys → (if not b then 1 + position_or_len test ys else 0) < length (y ∷ ys)
         cases true lt = omega arith
         cases false lt = omega (arith, lt)
+
     there : (n : ℕ) → position_or_len test xs ≡ n → Has (position test xs)
     there n same =
         let lt = below xs m.index m.at in

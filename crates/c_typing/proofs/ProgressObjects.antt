@@ -1,38 +1,37 @@
 -- The objects of a tree where no rule is broken: each name of one has a number.
-use Rattle.std.proofs.Common.{◌≡◌, ℕ, zero, suc, ◌+◌, ◌<◌, ◌≤◌, Bool, true, false, not, ◌&&◌, ◌||◌, List, [], ◌∷◌, ◌++◌, length, map, Option, Some, None, refl, sym, ap, ap₂, ◌∙◌, subst, arith, true≢false, ◌⊎◌, inl, inr, zero-add}
-use Rattle.std.specs.Prelude.{slice_get, unwrap_or, take, find, filter, position, nat_lt, ◌==◌, if◌then◌else◌}
+use Rattle.std.proofs.Common.{◌≡◌, ℕ, suc, ◌<◌, Bool, true, false, not, ◌&&◌, ◌||◌, List, [], ◌∷◌, length, map, Option, Some, None, refl, sym, ap, ap₂, ◌∙◌, arith, true≢false, ◌⊎◌, inl, inr, zero-add}
+use Rattle.std.specs.Prelude.{take, find, nat_lt, ◌==◌}
 use Rattle.std.specs.Option.{is_some}
 use Rattle.std.specs.List.{last_or, list_any}
 use Rattle.c_typing.specs.Meant.{has_form}
 use Rattle.std.specs.Str.{bytes_eq}
-use Rattle.std.proofs.lemmas.Bool.Decides.{Decides-eqb, nat_tests}
+use Rattle.std.proofs.lemmas.Bool.Decides.{nat_tests}
 use Rattle.c_lexer.specs.declared.token.Token.{Token}
 use Rattle.c_syntax.specs.declared.kind.SynKind.{SynKind}
 use Rattle.c_syntax.specs.declared.kind.SynKind.TheVariants as kind
 use Rattle.c_syntax.specs.Trees.{Tree}
 use Rattle.c_grammar.specs.Derivation.{IsTreeOf}
-use Rattle.c_typing.specs.Types.{CType, Layout}
+use Rattle.c_typing.specs.Types.{CType}
 use Rattle.c_typing.specs.Places.{Node, nodes, node_at, kind_at, parent_of, is_declarator, is_file_scope}
-use Rattle.c_typing.specs.Names.{Entity, typedef_name, function_name, static_object, automatic, parameter, enumerator, Name, Places, places, is_again, is_static, is_initialized, earlier, defines_object, is_defined_object, objects_of, object_number, name_of, denoted}
-use Rattle.c_typing.specs.Judgements.{Fault, Judgement, means, breaks_rules, waits, Meaning, declares, judgement_at, layouts}
+use Rattle.c_typing.specs.Names.{Entity, function_name, static_object, Name, Places, places, is_again, is_static, is_initialized, earlier, defines_object, is_defined_object, objects_of, object_number, name_of}
+use Rattle.c_typing.specs.Judgements.{Judgement, means, breaks_rules, waits, Meaning, declares, judgement_at, layouts}
 use Rattle.c_typing.specs.Rules.{broken_if, are_functions, agree_with, may_be_again, is_refused, declared_twice, bad_library_name}
 use Rattle.c_typing.specs.Declarators.{object_size, name_faults, declared_faults, whole_by, type_before}
-use Rattle.c_typing.specs.Typing.{judged_by, judgements_at, faults, is_there}
+use Rattle.c_typing.specs.Typing.{judgements_at, faults}
 use Rattle.c_typing.specs.Shapes as category
 use Rattle.c_typing.specs.Shapes.{Category, category_by}
 use Rattle.c_typing.specs.ShapesOfNodes.{category_at}
-use Rattle.c_typing.proofs.ShapesBase.{both}
 use Rattle.c_typing.proofs.ProgressBase.{judged_at}
 use Rattle.c_typing.proofs.ProgressForms.{Has, fits, split}
 use Rattle.c_typing.proofs.ProgressKinds as of
 use Rattle.c_typing.proofs.ProgressAll.{fronts_empty, no_fault, all_meant, found_at, by_number}
-use Rattle.c_typing.proofs.ProgressPlaces.{AreLinked, are_linked, some_same}
+use Rattle.c_typing.proofs.ProgressPlaces.{AreLinked, are_linked}
 use Rattle.c_typing.proofs.ProgressInside.{kind_declares}
 use Rattle.c_typing.proofs.ProgressInitials.{specials}
-use Rattle.c_typing.proofs.ProgressDeclared.{AllNames, Stands, IsEnumerator, IsDeclaredName, all_names_stand}
+use Rattle.c_typing.proofs.ProgressDeclared.{AllNames, Stands, IsDeclaredName, all_names_stand}
 use Rattle.c_typing.proofs.ProgressUsed.{at_name}
 use Rattle.c_typing.proofs.ProgressUnique.{InOrder, found_itself, in_order}
-use Rattle.c_typing.proofs.ProgressChecked.{Checked, checked}
+use Rattle.c_typing.proofs.ProgressChecked.{checked}
 use Rattle.c_typing.proofs.ProgressNumbers.{InList, in_filter, from_filter, last_in, place_of, split_two, again_same, same_again, First}
 
 no : {A : Type 0} → false ≡ true → A
@@ -42,7 +41,7 @@ is_broken_no : (b : Bool) (r n : ℕ) → broken_if b r n ≡ [] → b ≡ false
 is_broken_no true r n e = absurd (cc e)
 is_broken_no false r n e = refl
 
-static_is : (k : Entity) → is_static k ≡ true → k ≡ static_object
+pub static_is : (k : Entity) → is_static k ≡ true → k ≡ static_object
 static_is static_object e = refl
 static_is _ e = no e
 
@@ -86,7 +85,7 @@ before_static p e a t o same h =
 
 -- ---- a tree where no rule is broken
 
-all_listed : (names : List Name) → AllNames (λ e. InList names e) names
+pub all_listed : (names : List Name) → AllNames (λ e. InList names e) names
 all_listed [] = tt
 all_listed (e ∷ es) = (record { index = 0; at = refl }, later es (all_listed es))
   where
@@ -139,7 +138,7 @@ module _ (tokens : List Token) (t : Tree) (derived : IsTreeOf tokens t) (quiet :
         type = c.type;
         node = w.node.id;
         keeps = ap (λ k. declared_faults p (take e.behind js) e c.type w.node.id false k) (sym (static_is e.entity static))
-        ∙ (ap₂ (λ o k. whole_by p (take e.behind js) w.node c.type o k) (sym name) (sym owner) ∙ c.keeps);
+            ∙ (ap₂ (λ o k. whole_by p (take e.behind js) w.node c.type o k) (sym name) (sym owner) ∙ c.keeps);
       }
 
   -- the first declaration of an object

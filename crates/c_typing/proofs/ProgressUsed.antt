@@ -1,6 +1,6 @@
 -- What the unit of a tree is put together from is there: the types of objects, and what names in expressions name.
 use Rattle.std.proofs.Common.{◌≡◌, ℕ, zero, suc, Bool, true, false, not, ◌&&◌, List, [], ◌∷◌, length, Option, Some, None, refl, sym, ap, ◌∙◌, subst, true≢false, inl, inr}
-use Rattle.std.specs.Prelude.{slice_get, take, flat_map, if◌then◌else◌, ◌==◌}
+use Rattle.std.specs.Prelude.{slice_get, flat_map, if◌then◌else◌, ◌==◌}
 use Rattle.c_lexer.specs.declared.token.Token.{Token}
 use Rattle.c_syntax.specs.declared.kind.SynKind.TheVariants as kind
 use Rattle.c_syntax.specs.Trees.{Tree}
@@ -14,11 +14,10 @@ use Rattle.c_typing.proofs.ProgressForms.{Has, has_type, has_its_type}
 use Rattle.c_typing.proofs.ProgressDeclared.{AllNames, Stands, all_names_stand, all_filter}
 use Rattle.c_typing.specs.Expressions.{variable, variable_by}
 use Rattle.c_typing.specs.Rules.{broken_if}
-use Rattle.c_typing.specs.Typing.{judged_by, judgements_at, faults, place_faults_by, is_there, use_faults}
+use Rattle.c_typing.specs.Typing.{judged_by, faults}
 use Rattle.c_typing.specs.ShapesOfNodes.{category_at}
-use Rattle.c_typing.specs.Meant.{judgements, HasType, IsUsed}
-use Rattle.c_typing.proofs.ProgressBase.{judged_at}
-use Rattle.c_typing.proofs.ProgressAll.{fronts_empty, calm_at, no_fault, all_meant}
+use Rattle.c_typing.specs.Meant.{judgements, HasType}
+use Rattle.c_typing.proofs.ProgressAll.{fronts_empty, no_fault, all_meant}
 use Rattle.c_typing.proofs.ProgressPlaces.{AreLinked, are_linked}
 use Rattle.c_typing.proofs.ProgressInitials.{specials}
 
@@ -26,7 +25,7 @@ no : {A : Type 0} → false ≡ true → A
 no e = absurd (true≢false (sym e))
 
 -- where no node has a fault, this one has none
-node_empty : (f : Node → List Fault) (ns : List Node) (n : ℕ) (m : Node) → flat_map f ns ≡ [] → slice_get ns n ≡ Some m → f m ≡ []
+pub node_empty : (f : Node → List Fault) (ns : List Node) (n : ℕ) (m : Node) → flat_map f ns ≡ [] → slice_get ns n ≡ Some m → f m ≡ []
 node_empty f [] n m e at = absurd (cc at)
 node_empty f (x ∷ ns) zero m e at = same at
   where
@@ -34,16 +33,16 @@ node_empty f (x ∷ ns) zero m e at = same at
     same h = let equal : x ≡ m = cc h in subst (λ (y : Node). f y ≡ []) equal (fronts_empty (f x) (flat_map f ns) e).0
 node_empty f (x ∷ ns) (suc n) m e at = node_empty f ns n m (fronts_empty (f x) (flat_map f ns) e).1 at
 
-not_broken : (b : Bool) (r n : ℕ) → broken_if (not b) r n ≡ [] → b ≡ true
+pub not_broken : (b : Bool) (r n : ℕ) → broken_if (not b) r n ≡ [] → b ≡ true
 not_broken true r n e = refl
 not_broken false r n e = absurd (cc e)
 
-record Denotes (p : Places) (m : Node) : Type 0 where
-  name : Name
-  is : denoted p.names m.id m.label.text ≡ Some name
-  value : is_typedef name.entity ≡ false
+pub record Denotes (p : Places) (m : Node) : Type 0 where
+  pub name : Name
+  pub is : denoted p.names m.id m.label.text ≡ Some name
+  pub value : is_typedef name.entity ≡ false
 
-denotes : (p : Places) (js : List Judgement) (m : Node) → faults_in (judged_by p js m kind.Var) ≡ [] → Denotes p m
+pub denotes : (p : Places) (js : List Judgement) (m : Node) → faults_in (judged_by p js m kind.Var) ≡ [] → Denotes p m
 unfolding judged_by variable variable_by
 denotes p js m calm = by (denoted p.names m.id m.label.text) refl calm
   where
@@ -54,18 +53,6 @@ denotes p js m calm = by (denoted p.names m.id m.label.text) refl calm
     by : (o : Option Name) → denoted p.names m.id m.label.text ≡ o → faults_in (variable p js m o) ≡ [] → Denotes p m
     by None same h = absurd (cc h)
     by (Some e) same h = record { name = e; is = same; value = entity e e.entity h }
-
-pub used : (t : Tree) (n : ℕ) (m : Node) → faults t ≡ [] → slice_get (nodes t) n ≡ Some m → m.label.kind ≡ kind.Var → IsUsed t m
-used t n m quiet e same =
-    let p = places t in
-    let js = judgements_at p in
-    let none = no_fault t quiet in
-    let calm = sym (ap faults_in (judged_at p p.nodes n m e)) ∙ calm_at js n none.by_node in
-    let d = denotes p (take n js) m (ap (λ k. faults_in (judged_by p (take n js) m k)) (sym same) ∙ calm) in
-    let here = node_empty (λ (node : Node). place_faults_by p node node.label.kind) p.nodes n m none.by_place e in
-    let uses : use_faults p m (denoted p.names m.id m.label.text) ≡ [] = ap (λ k. place_faults_by p m k) (sym same) ∙ here in
-    let there = not_broken (is_there p d.name d.name.entity) 17 m.id (ap (λ o. use_faults p m o) (sym d.is) ∙ uses) in
-    record { name = d.name; denotes = d.is; is_value = d.value; is_defined = there }
 
 -- ---- objects
 

@@ -1,6 +1,7 @@
 -- What the nodes of a tree mean where no rule is broken and no size is above the limit: each has a meaning, with a form by its
 -- category. C99 6.7 to 6.9.
 use Rattle.std.specs.Prelude.{◌≡◌, ℕ, ◌<◌, ◌≤◌, Bool, true, false, List, Some}
+use Rattle.std.specs.Option.{is_some}
 use Rattle.c_syntax.specs.declared.kind.SynKind.{SynKind}
 use Rattle.c_syntax.specs.declared.kind.SynKind.TheVariants as kind
 use Rattle.c_syntax.specs.Trees.{Tree, one}
@@ -9,7 +10,7 @@ use Rattle.c_types.specs.declared.kind.TheConstants.{MAX_SIZE}
 use Rattle.c_types.specs.declared.tree.Unit.{Unit as Whole}
 use Rattle.c_typing.specs.Types.{CType, is_function}
 use Rattle.c_typing.specs.Places.{Node, nodes, is_whole}
-use Rattle.c_typing.specs.Names.{Name, places, denoted, is_typedef}
+use Rattle.c_typing.specs.Names.{Name, places, denoted, is_typedef, is_static, object_number}
 use Rattle.c_typing.specs.Judgements.{Meaning, itself, a_type, a_struct, members, enumerates, steps, declares, expresses, fills_array, initial, initialized, performs, labels, defines, Judgement, means, Form, callee, judgement_at}
 use Rattle.c_typing.specs.Expressions.{type_of_name}
 use Rattle.c_typing.specs.Shapes as category
@@ -128,12 +129,13 @@ pub record HasType (t : Tree) (e : Name) : Type 0 where
   pub typed : type_of_name (judgements t) e ≡ Some type
 
 -- a name in an expression names an object, a function or an enumerator; where it is a function or a static object, that one is
--- defined, or is a function of the library
+-- defined, or is a function of the library, and the object has its number among the objects
 pub record IsUsed (t : Tree) (m : Node) : Type 0 where
   pub name : Name
   pub denotes : denoted (places t).names m.id m.label.text ≡ Some name
   pub is_value : is_typedef name.entity ≡ false
   pub is_defined : is_there (places t) name name.entity ≡ true
+  pub is_numbered : is_static name.entity ≡ true → is_some (object_number (places t) name) ≡ true
 
 -- ---- one typing
 

@@ -83,5 +83,10 @@ pub fn progress()
         → faults t ≡ []
         → slice_get (objects_of (places t)) k ≡ Some e
         → HasType t e }
-    ensures uses { (t : Tree) (n : ℕ) (m : Node) → faults t ≡ [] → slice_get (nodes t) n ≡ Some m → m.label.kind ≡ kind.Var → IsUsed t m }
+    ensures uses { (tokens : List Token) (t : Tree) (n : ℕ) (m : Node)
+        → IsTreeOf tokens t
+        → faults t ≡ []
+        → slice_get (nodes t) n ≡ Some m
+        → m.label.kind ≡ kind.Var
+        → IsUsed t m }
 {}

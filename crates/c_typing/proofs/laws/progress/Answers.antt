@@ -1,6 +1,7 @@
 use Rattle.c_typing.proofs.ProgressMeant.{meant, sound}
 use Rattle.c_typing.proofs.BoundsTree.{one_typing}
-use Rattle.c_typing.proofs.ProgressUsed.{object_typed, used}
+use Rattle.c_typing.proofs.ProgressUsed.{object_typed}
+use Rattle.c_typing.proofs.ProgressUses.{used}
 use Rattle.c_typing.proofs.laws.progress.Goals as goal
 
 pub returns-clause-one_typing : goal.returns-clause-one_typing
@@ -16,4 +17,4 @@ pub returns-clause-objects : goal.returns-clause-objects
 returns-clause-objects c tokens t k e derived quiet at = object_typed tokens t k e derived quiet at
 
 pub returns-clause-uses : goal.returns-clause-uses
-returns-clause-uses c t n m quiet e same = used t n m quiet e same
+returns-clause-uses c tokens t n m derived quiet e same = used tokens t n m derived quiet e same
