@@ -59,3 +59,5 @@ pub mod ProgressChecked
 pub mod ProgressNumbers
 pub mod ProgressObjects
 pub mod ProgressUses
+pub mod ProgressScopes
+pub mod ProgressLocals

@@ -57,14 +57,14 @@ only_unit kind.Unit e = refl
 only_unit _ e = no e
 
 -- the function f, at the place, has the node m, at the place n, in its block
-record InBody (ns : List Node) (n : ℕ) (m : Node) : Type 0 where
-  place : ℕ
-  node : Node
-  at : slice_get ns place ≡ Some node
-  is : node.label.kind ≡ kind.Function
-  behind : kid node 1 < m.first
-  from : node.first ≤ m.first
-  to : n ≤ place
+pub record InBody (ns : List Node) (n : ℕ) (m : Node) : Type 0 where
+  pub place : ℕ
+  pub node : Node
+  pub at : slice_get ns place ≡ Some node
+  pub is : node.label.kind ≡ kind.Function
+  pub behind : kid node 1 < m.first
+  pub from : node.first ≤ m.first
+  pub to : n ≤ place
 
 module _ (cat : ℕ → Category) (ns : List Node) (l : AreLinked cat ns) where
   not_function : (c : Category) → is_body c ≡ true → (c ≡ category.specifiers → ⊥) × (c ≡ category.declarator → ⊥)
@@ -98,7 +98,7 @@ module _ (cat : ℕ → Category) (ns : List Node) (l : AreLinked cat ns) where
       index (suc zero) at f g = absurd (g (get_or_at cat ns l q.parent.kids 1 n at))
       index (suc (suc i)) at f g = omega arith
 
-  climb : (d n : ℕ) (m : Node) → n + d ≡ length ns → slice_get ns n ≡ Some m → is_body (cat n) ≡ true → InBody ns n m
+  pub climb : (d n : ℕ) (m : Node) → n + d ≡ length ns → slice_get ns n ≡ Some m → is_body (cat n) ≡ true → InBody ns n m
   climb d = by_number (λ d. (n : ℕ) (m : Node) → n + d ≡ length ns → slice_get ns n ≡ Some m → is_body (cat n) ≡ true → InBody ns n m) step d
     where
       step : (d : ℕ) → ((j : ℕ) → j < d → (n : ℕ) (m : Node) → n + j ≡ length ns → slice_get ns n ≡ Some m → is_body (cat n) ≡ true → InBody ns n m)
@@ -127,7 +127,7 @@ module _ (cat : ℕ → Category) (ns : List Node) (l : AreLinked cat ns) where
 
   -- ---- there is one function around a node
 
-  unit_last : (n : ℕ) (m : Node) → slice_get ns n ≡ Some m → m.label.kind ≡ kind.Unit → suc n ≡ length ns
+  pub unit_last : (n : ℕ) (m : Node) → slice_get ns n ≡ Some m → m.label.kind ≡ kind.Unit → suc n ≡ length ns
   unfolding category_by stands_in
   unit_last n m e same = by (l.linked n m e)
     where
@@ -183,15 +183,15 @@ module _ (cat : ℕ → Category) (ns : List Node) (l : AreLinked cat ns) where
 
 -- ---- it is found
 
-record Found (ns : List Node) (g test : Node → Bool) : Type 0 where
-  node : Node
-  is : find test (filter g ns) ≡ Some node
-  place : ℕ
-  at : slice_get ns place ≡ Some node
-  chosen : g node ≡ true
-  passes : test node ≡ true
+pub record Found (ns : List Node) (g test : Node → Bool) : Type 0 where
+  pub node : Node
+  pub is : find test (filter g ns) ≡ Some node
+  pub place : ℕ
+  pub at : slice_get ns place ≡ Some node
+  pub chosen : g node ≡ true
+  pub passes : test node ≡ true
 
-found_in : (ns : List Node) (g test : Node → Bool) (k : ℕ) (f : Node) → slice_get ns k ≡ Some f → g f ≡ true → test f ≡ true → Found ns g test
+pub found_in : (ns : List Node) (g test : Node → Bool) (k : ℕ) (f : Node) → slice_get ns k ≡ Some f → g f ≡ true → test f ≡ true → Found ns g test
 found_in [] g test k f e h i = absurd (cc e)
 found_in (x ∷ ns) g test k f e h i = by (g x) (test x) refl refl k e (λ j at. found_in ns g test j f at h i)
   where
@@ -222,7 +222,7 @@ function_is : (k : SynKind) → is_function k ≡ true → k ≡ kind.Function
 function_is kind.Function e = refl
 function_is _ e = no e
 
-le_true : (a b : ℕ) → a ≤ b → nat_le a b ≡ true
+pub le_true : (a b : ℕ) → a ≤ b → nat_le a b ≡ true
 le_true a b le = grind (arith, nat_tests, le)
 
 le_from : (a b : ℕ) → nat_le a b ≡ true → a ≤ b

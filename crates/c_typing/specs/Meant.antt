@@ -1,6 +1,6 @@
 -- What the nodes of a tree mean where no rule is broken and no size is above the limit: each has a meaning, with a form by its
 -- category. C99 6.7 to 6.9.
-use Rattle.std.specs.Prelude.{◌≡◌, ℕ, ◌<◌, ◌≤◌, Bool, true, false, List, Some}
+use Rattle.std.specs.Prelude.{◌≡◌, ℕ, ◌<◌, ◌≤◌, Bool, true, false, List, Some, find, position, ◌==◌}
 use Rattle.std.specs.Option.{is_some}
 use Rattle.c_syntax.specs.declared.kind.SynKind.{SynKind}
 use Rattle.c_syntax.specs.declared.kind.SynKind.TheVariants as kind
@@ -9,8 +9,8 @@ use Rattle.c_syntax.specs.Tables.{size}
 use Rattle.c_types.specs.declared.kind.TheConstants.{MAX_SIZE}
 use Rattle.c_types.specs.declared.tree.Unit.{Unit as Whole}
 use Rattle.c_typing.specs.Types.{CType, is_function}
-use Rattle.c_typing.specs.Places.{Node, nodes, is_whole}
-use Rattle.c_typing.specs.Names.{Name, places, denoted, is_typedef, is_static, object_number}
+use Rattle.c_typing.specs.Places.{Node, nodes, is_whole, holds}
+use Rattle.c_typing.specs.Names.{Name, places, denoted, is_typedef, is_static, object_number, automatics_in}
 use Rattle.c_typing.specs.Judgements.{Meaning, itself, a_type, a_struct, members, enumerates, steps, declares, expresses, fills_array, initial, initialized, performs, labels, defines, Judgement, means, Form, callee, judgement_at}
 use Rattle.c_typing.specs.Expressions.{type_of_name}
 use Rattle.c_typing.specs.Shapes as category
@@ -136,6 +136,12 @@ pub record IsUsed (t : Tree) (m : Node) : Type 0 where
   pub is_value : is_typedef name.entity ≡ false
   pub is_defined : is_there (places t) name name.entity ≡ true
   pub is_numbered : is_static name.entity ≡ true → is_some (object_number (places t) name) ≡ true
+
+-- an automatic object stands in a function that is defined, and has its place among the automatic objects there
+pub record IsLocal (t : Tree) (e : Name) : Type 0 where
+  pub owner : Node
+  pub around : find (λ f. holds f e.node) (places t).functions ≡ Some owner
+  pub is_placed : is_some (position (λ (a : Name). a.node == e.node) (automatics_in (places t) owner)) ≡ true
 
 -- ---- one typing
 

@@ -2,6 +2,7 @@ use Rattle.c_typing.proofs.ProgressMeant.{meant, sound}
 use Rattle.c_typing.proofs.BoundsTree.{one_typing}
 use Rattle.c_typing.proofs.ProgressUsed.{object_typed}
 use Rattle.c_typing.proofs.ProgressUses.{used}
+use Rattle.c_typing.proofs.ProgressLocals.{local_there}
 use Rattle.c_typing.proofs.laws.progress.Goals as goal
 
 pub returns-clause-one_typing : goal.returns-clause-one_typing
@@ -18,3 +19,6 @@ returns-clause-objects c tokens t k e derived quiet at = object_typed tokens t k
 
 pub returns-clause-uses : goal.returns-clause-uses
 returns-clause-uses c tokens t n m derived quiet e same = used tokens t n m derived quiet e same
+
+pub returns-clause-locals : goal.returns-clause-locals
+returns-clause-locals c tokens t k e derived at auto = local_there tokens t k e derived at auto
