@@ -61,3 +61,4 @@ pub mod ProgressObjects
 pub mod ProgressUses
 pub mod ProgressScopes
 pub mod ProgressLocals
+pub mod ProgressBuilt
