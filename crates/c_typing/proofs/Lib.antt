@@ -62,3 +62,5 @@ pub mod ProgressUses
 pub mod ProgressScopes
 pub mod ProgressLocals
 pub mod ProgressBuilt
+pub mod ProgressParts
+pub mod ProgressCompleted

@@ -39,6 +39,12 @@ more_steps (x ∷ ss) node s e = by (is_of_unsized x.step) e (more_steps ss node
     by true e f = inl refl
     by false e f = f e
 
+-- a name, or the place of an absent one, has nothing inside
+abbrev pub is_leaf : SynKind → Bool
+is_leaf kind.Ident = true
+is_leaf kind.NoName = true
+is_leaf k = false
+
 -- ---- what is built
 
 -- an array without a length is made by the last step, or is the type of the specs
@@ -179,8 +185,17 @@ module _ (p : Places) (js : List Judgement) (node : Node) where
         (given_traces (steps_at js (kid node 0)) _ (λ ss f. given_traces (all_of (map (type_at js) (other_kids node))) _ (λ types g. declarator_traces _ (with_more ss (of_function (types_of types)) f (λ v. no v)))))
     all_trace _ e = absurd (true≢false (sym e))
 
-    pub made : (k : SynKind) (t : CType) → is_declarator k ≡ true → judged_by p js node k ≡ means (declares t) → Made p js node t
-    made k t e same = (all_trace k e).whole t same
+  any_trace : (k : SynKind) → is_declarator k ≡ true
+      → (is_leaf k ≡ false → (ss : List PlacedStep) → steps_at js (kid node 0) ≡ Some ss → has_unsized ss ≡ true → is_given p node.first ≡ true) → Traces p js node (judged_by p js node k)
+  unfolding judged_by
+  any_trace kind.Ident e h = declarator_traces [] (λ v. no v)
+  any_trace kind.NoName e h = declarator_traces [] (λ v. no v)
+  any_trace k e h = all_trace (h refl) k e
 
-    pub parted : (k : SynKind) (ss : List PlacedStep) → is_declarator k ≡ true → judged_by p js node k ≡ means (steps ss) → has_unsized ss ≡ true → is_given p node.first ≡ true
-    parted k ss e same u = (all_trace k e).part ss same u
+  pub made : (k : SynKind) (t : CType) → is_declarator k ≡ true
+      → (is_leaf k ≡ false → (ss : List PlacedStep) → steps_at js (kid node 0) ≡ Some ss → has_unsized ss ≡ true → is_given p node.first ≡ true) → judged_by p js node k ≡ means (declares t) → Made p js node t
+  made k t e h same = (any_trace k e h).whole t same
+
+  pub parted : (k : SynKind) (ss : List PlacedStep) → is_declarator k ≡ true
+      → (is_leaf k ≡ false → (ss : List PlacedStep) → steps_at js (kid node 0) ≡ Some ss → has_unsized ss ≡ true → is_given p node.first ≡ true) → judged_by p js node k ≡ means (steps ss) → has_unsized ss ≡ true → is_given p node.first ≡ true
+  parted k ss e h same u = (any_trace k e h).part ss same u
