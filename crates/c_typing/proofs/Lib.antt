@@ -64,3 +64,5 @@ pub mod ProgressLocals
 pub mod ProgressBuilt
 pub mod ProgressParts
 pub mod ProgressCompleted
+pub mod ProgressSpecs
+pub mod ProgressTyped

@@ -8,7 +8,7 @@ use Rattle.c_syntax.specs.declared.kind.SynKind.{SynKind}
 use Rattle.c_syntax.specs.declared.kind.SynKind.TheVariants as kind
 use Rattle.c_typing.specs.Places.{Node, node_at, kind_at, whole_declarator, Scope, scope_at, specs_of, in_scope, end_of, says, is_file_scope}
 use Rattle.c_typing.specs.Types.{CType}
-use Rattle.c_typing.specs.Names.{is_static, Entity, typedef_name, function_name, static_object, automatic, enumerator, Name, Places, inner_of, innermost, names_at, denoted, declares_function, entity_by, name_list, names_by, names_from}
+use Rattle.c_typing.specs.Names.{is_typedef, is_static, Entity, typedef_name, function_name, static_object, automatic, enumerator, Name, Places, inner_of, innermost, names_at, denoted, declares_function, entity_by, name_list, names_by, names_from}
 use Rattle.c_typing.specs.Judgements.{judgement_at, type_of, type_at}
 use Rattle.c_typing.specs.Expressions.{type_of_name, word_of_enumerator}
 use Rattle.c_typing.specs.Typing.{judgements_at}
@@ -104,7 +104,7 @@ pub record IsDeclaredName (cat : ℕ → Category) (ns : List Node) (e : Name) :
   pub declarator : whole_declarator ns e.node ≡ whole.node
   pub entity : is_enumerator_entity e.entity ≡ false
   pub first : whole.node.first ≡ e.node
-  pub static_owner : is_static e.entity ≡ true → (node_at ns e.owner).label.kind ≡ kind.InitDecl
+  pub init_owner : (is_static e.entity || is_typedef e.entity) ≡ true → (node_at ns e.owner).label.kind ≡ kind.InitDecl
 
 abbrev pub Stands : (ℕ → Category) → List Node → Name → Type 0
 Stands cat ns e = IsEnumerator ns e ⊎ IsDeclaredName cat ns e
@@ -131,14 +131,14 @@ entity_no_enumerator s owner specs c f kind.Param x e = ap is_enumerator_entity 
     entity_same e = cc e
 entity_no_enumerator s owner specs c f _ x e = absurd (cc e)
 
--- an object with a static place is declared with an initializer or without one
-entity_static : (s : List Node) (owner specs : Node) (c : Scope) (f : Bool) (k : SynKind) (x : Entity) → entity_by s owner specs c f k ≡ Some x → is_static x ≡ true → k ≡ kind.InitDecl
+-- a static object or a type is declared with an initializer or without one
+entity_static : (s : List Node) (owner specs : Node) (c : Scope) (f : Bool) (k : SynKind) (x : Entity) → entity_by s owner specs c f k ≡ Some x → (is_static x || is_typedef x) ≡ true → k ≡ kind.InitDecl
 entity_static s owner specs c f kind.InitDecl x e h = refl
-entity_static s owner specs c f kind.Function x e h = no (ap is_static (entity_same e) ∙ h)
+entity_static s owner specs c f kind.Function x e h = no (ap (λ y. is_static y || is_typedef y) (entity_same e) ∙ h)
   where
     entity_same : {x y : Entity} → Some x ≡ Some y → x ≡ y
     entity_same e = cc e
-entity_static s owner specs c f kind.Param x e h = no (ap is_static (entity_same e) ∙ h)
+entity_static s owner specs c f kind.Param x e h = no (ap (λ y. is_static y || is_typedef y) (entity_same e) ∙ h)
   where
     entity_same : {x y : Entity} → Some x ≡ Some y → x ≡ y
     entity_same e = cc e
@@ -155,7 +155,7 @@ module _ (cat : ℕ → Category) (ns : List Node) (l : AreLinked cat ns) where
       here = ap (λ j. slice_get ns j) id ∙ e
 
       listed : (w : NameIs cat ns l node.id) (same : node.label.kind ≡ kind.Ident) (whole : Node) (c : Scope) (f : Bool) (o : Option Entity) → whole ≡ w.whole.node → ((x : Entity) → o ≡ Some x → is_enumerator_entity x ≡ false)
-          → ((x : Entity) → o ≡ Some x → is_static x ≡ true → (node_at ns w.whole.node.parent).label.kind ≡ kind.InitDecl)
+          → ((x : Entity) → o ≡ Some x → (is_static x || is_typedef x) ≡ true → (node_at ns w.whole.node.parent).label.kind ≡ kind.InitDecl)
           → AllNames (Stands cat ns) (name_list node whole c f o)
       listed w same whole c f None equal h i = tt
       listed w same whole c f (Some x) equal h i =
@@ -170,7 +170,7 @@ module _ (cat : ℕ → Category) (ns : List Node) (l : AreLinked cat ns) where
               declarator = w.is;
               entity = h x refl;
               first = w.first;
-              static_owner = i x refl;
+              init_owner = i x refl;
             }),
             tt,
           ))

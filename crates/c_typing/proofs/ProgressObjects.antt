@@ -13,7 +13,7 @@ use Rattle.c_syntax.specs.Trees.{Tree}
 use Rattle.c_grammar.specs.Derivation.{IsTreeOf}
 use Rattle.c_typing.specs.Types.{CType}
 use Rattle.c_typing.specs.Places.{Node, nodes, node_at, kind_at, parent_of, is_declarator, is_file_scope}
-use Rattle.c_typing.specs.Names.{Entity, function_name, static_object, Name, Places, places, is_again, is_static, is_initialized, earlier, defines_object, is_defined_object, objects_of, object_number, name_of}
+use Rattle.c_typing.specs.Names.{is_typedef, Entity, function_name, static_object, Name, Places, places, is_again, is_static, is_initialized, earlier, defines_object, is_defined_object, objects_of, object_number, name_of}
 use Rattle.c_typing.specs.Judgements.{Judgement, means, breaks_rules, waits, Meaning, declares, judgement_at, layouts}
 use Rattle.c_typing.specs.Rules.{broken_if, are_functions, agree_with, may_be_again, is_refused, declared_twice, bad_library_name}
 use Rattle.c_typing.specs.Declarators.{object_size, name_faults, declared_faults, whole_by, type_before}
@@ -53,12 +53,16 @@ not_false : (b : Bool) → not b ≡ false → b ≡ true
 not_false true e = refl
 not_false false e = absurd (true≢false e)
 
--- a whole declarator declares a type
-record DeclaresType (j : Judgement) : Type 0 where
-  type : CType
-  is : j ≡ means (declares type)
+or_first : (a b : Bool) → a ≡ true → (a || b) ≡ true
+or_first true b e = refl
+or_first false b e = no e
 
-declares_type : (outer own : SynKind) (j : Judgement) → not (is_declarator outer) ≡ true → fits outer own category.declarator j ≡ true → DeclaresType j
+-- a whole declarator declares a type
+pub record DeclaresType (j : Judgement) : Type 0 where
+  pub type : CType
+  pub is : j ≡ means (declares type)
+
+pub declares_type : (outer own : SynKind) (j : Judgement) → not (is_declarator outer) ≡ true → fits outer own category.declarator j ≡ true → DeclaresType j
 declares_type outer own (means m) w f = by m (not (is_declarator outer)) w (split f).0
   where
     by : (m : Meaning) (b : Bool) → b ≡ true → has_form category.declarator own b m ≡ true → DeclaresType (means m)
@@ -100,13 +104,13 @@ module _ (tokens : List Token) (t : Tree) (derived : IsTreeOf tokens t) (quiet :
   l : AreLinked (category_at t) (nodes t)
   l = are_linked tokens t derived
 
-  stand : (e : Name) → InList (places t).names e → Stands (category_at t) (nodes t) e
+  pub stand : (e : Name) → InList (places t).names e → Stands (category_at t) (nodes t) e
   stand e m = at_name (Stands (category_at t) (nodes t)) (places t).names m.index e (all_names_stand (category_at t) (nodes t) (are_linked tokens t derived) (places t).scopes) m.at
 
   order : InOrder 0 (places t).names
   order = in_order (nodes t) (places t).scopes [] (nodes t) 0 (λ j m e. (l.shapes.tiled j m e).numbered ∙ sym (zero-add j)) tt tt
 
-  named : (e : Name) → InList (places t).names e → name_of (places t) e.node ≡ Some e
+  pub named : (e : Name) → InList (places t).names e → name_of (places t) e.node ≡ Some e
   named e m = found_itself 0 (places t).names m.index e order m.at
 
   -- what is asked of the declarator of a static object
@@ -133,7 +137,7 @@ module _ (tokens : List Token) (t : Tree) (derived : IsTreeOf tokens t) (quiet :
       let owner : (parent_of p.nodes w.node.id).label.kind ≡ kind.InitDecl =
       ap (λ i. (node_at p.nodes (node_at p.nodes i).parent).label.kind) number
       ∙ (ap (λ (x : Node). (node_at p.nodes x.parent).label.kind) (found_at p.nodes e.behind w.node w.at)
-      ∙ (ap (λ i. (node_at p.nodes i).label.kind) (sym de.owner) ∙ de.static_owner static)) in
+      ∙ (ap (λ i. (node_at p.nodes i).label.kind) (sym de.owner) ∙ de.init_owner (or_first (is_static e.entity) (is_typedef e.entity) static))) in
       record {
         type = c.type;
         node = w.node.id;
