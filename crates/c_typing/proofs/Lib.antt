@@ -66,3 +66,4 @@ pub mod ProgressParts
 pub mod ProgressCompleted
 pub mod ProgressSpecs
 pub mod ProgressTyped
+pub mod ProgressSizes
