@@ -67,3 +67,4 @@ pub mod ProgressCompleted
 pub mod ProgressSpecs
 pub mod ProgressTyped
 pub mod ProgressSizes
+pub mod ProgressSized

@@ -103,15 +103,15 @@ taken_at [] (suc k) x u e = absurd (cc e)
 taken_at (j ∷ js) (suc k) zero u e = e
 taken_at (j ∷ js) (suc k) (suc x) u e = taken_at js k x u e
 
-no_object : (k : Entity) → is_typedef k ≡ true → is_object k ≡ true → ⊥
+pub no_object : (k : Entity) → is_typedef k ≡ true → is_object k ≡ true → ⊥
 no_object typedef_name e f = no f
 no_object _ e f = no e
 
-or_second : (a b : Bool) → b ≡ true → (a || b) ≡ true
+pub or_second : (a b : Bool) → b ≡ true → (a || b) ≡ true
 or_second true b e = refl
 or_second false b e = e
 
-declares_same : {x y : CType} → means (declares x) ≡ means (declares y) → x ≡ y
+pub declares_same : {x y : CType} → means (declares x) ≡ means (declares y) → x ≡ y
 declares_same e = cc e
 
 module _ (tokens : List Token) (t : Tree) (derived : IsTreeOf tokens t) (quiet : faults t ≡ []) where
@@ -119,12 +119,12 @@ module _ (tokens : List Token) (t : Tree) (derived : IsTreeOf tokens t) (quiet :
   l = are_linked tokens t derived
 
   -- the type of a typedef name is no array without a length
-  abbrev Lengthy : ℕ → Type 0
+  abbrev pub Lengthy : ℕ → Type 0
   Lengthy n = (e : Name) → e.behind ≡ n → InList (places t).names e → IsDeclaredName (category_at t) (nodes t) e → is_typedef e.entity ≡ true
       → (u : CType) → judgement_at (judgements_at (places t)) e.behind ≡ means (declares u) → is_unsized u ≡ false
 
   -- nor is that of a name among specs before
-  word_lengthy : (n : ℕ) → ((k : ℕ) → k < n → Lengthy k) → (k : ℕ) (m : Node) → slice_get (nodes t) k ≡ Some m → k < n
+  pub word_lengthy : (n : ℕ) → ((k : ℕ) → k < n → Lengthy k) → (k : ℕ) (m : Node) → slice_get (nodes t) k ≡ Some m → k < n
       → (e : Name) (u : CType) → denoted (places t).names m.id m.label.text ≡ Some e → is_typedef e.entity ≡ true → type_of_name (take k (judgements_at (places t))) e ≡ Some u → is_unsized u ≡ false
   word_lengthy n f k m at lt e u d typedef typed =
       let p = places t in
@@ -162,7 +162,7 @@ module _ (tokens : List Token) (t : Tree) (derived : IsTreeOf tokens t) (quiet :
                   ap is_unsized (sym owns) ∙ plain
 
   -- nor is the type of specs
-  specs_lengthy : (n : ℕ) → ((k : ℕ) → k < n → Lengthy k) → (s : ℕ) → Before (category_at t) (nodes t) n s is_specs → (u : CType) → type_at (take n (judgements_at (places t))) s ≡ Some u → is_unsized u ≡ false
+  pub specs_lengthy : (n : ℕ) → ((k : ℕ) → k < n → Lengthy k) → (s : ℕ) → Before (category_at t) (nodes t) n s is_specs → (u : CType) → type_at (take n (judgements_at (places t))) s ≡ Some u → is_unsized u ≡ false
   specs_lengthy n f s b u typed =
       let p = places t in
       let js = judgements_at p in

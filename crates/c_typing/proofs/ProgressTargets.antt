@@ -9,7 +9,7 @@ use Rattle.c_typing.specs.Names.{Places, Name}
 use Rattle.c_typing.specs.Judgements.{Meaning, a_struct, means, breaks_rules, waits, Judgement, layouts, type_at}
 use Rattle.c_typing.specs.Initializers.{is_text_alone, part_type, part_of, declared_object, target_by, target_within}
 
-layouts_front : (js rest : List Judgement) → layouts (js ++ rest) ≡ layouts js ++ layouts rest
+pub layouts_front : (js rest : List Judgement) → layouts (js ++ rest) ≡ layouts js ++ layouts rest
 layouts_front [] rest = refl
 layouts_front (means m ∷ js) rest = by m (layouts_front js rest)
   where
@@ -19,7 +19,7 @@ layouts_front (means m ∷ js) rest = by m (layouts_front js rest)
 layouts_front (breaks_rules f fs ∷ js) rest = layouts_front js rest
 layouts_front (waits ∷ js) rest = layouts_front js rest
 
-found_front : (test : Layout → Bool) (xs ys : List Layout) (l : Layout) → find test xs ≡ Some l → find test (xs ++ ys) ≡ Some l
+pub found_front : (test : Layout → Bool) (xs ys : List Layout) (l : Layout) → find test xs ≡ Some l → find test (xs ++ ys) ≡ Some l
 found_front test [] ys l e = absurd (cc e)
 found_front test (x ∷ xs) ys l e = by (test x) e (found_front test xs ys l)
   where

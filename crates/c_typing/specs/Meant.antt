@@ -8,10 +8,10 @@ use Rattle.c_syntax.specs.Trees.{Tree, one}
 use Rattle.c_syntax.specs.Tables.{size}
 use Rattle.c_types.specs.declared.kind.TheConstants.{MAX_SIZE}
 use Rattle.c_types.specs.declared.tree.Unit.{Unit as Whole}
-use Rattle.c_typing.specs.Types.{CType, is_function}
+use Rattle.c_typing.specs.Types.{CType, is_function, has_size}
 use Rattle.c_typing.specs.Places.{Node, nodes, is_whole, holds}
 use Rattle.c_typing.specs.Names.{Name, places, denoted, is_typedef, is_static, object_number, automatics_in}
-use Rattle.c_typing.specs.Judgements.{Meaning, itself, a_type, a_struct, members, enumerates, steps, declares, expresses, fills_array, initial, initialized, performs, labels, defines, Judgement, means, Form, callee, judgement_at}
+use Rattle.c_typing.specs.Judgements.{Meaning, itself, a_type, a_struct, members, enumerates, steps, declares, expresses, fills_array, initial, initialized, performs, labels, defines, Judgement, means, Form, callee, judgement_at, layouts}
 use Rattle.c_typing.specs.Expressions.{type_of_name}
 use Rattle.c_typing.specs.Shapes as category
 use Rattle.c_typing.specs.Shapes.{Category}
@@ -127,6 +127,12 @@ pub record IsMeant (t : Tree) (n : ℕ) (m : Node) : Type 0 where
 pub record HasType (t : Tree) (e : Name) : Type 0 where
   pub type : CType
   pub typed : type_of_name (judgements t) e ≡ Some type
+
+-- an object has a type, and the type has a size
+pub record IsSized (t : Tree) (e : Name) : Type 0 where
+  pub type : CType
+  pub typed : type_of_name (judgements t) e ≡ Some type
+  pub has : has_size (layouts (judgements t)) type ≡ true
 
 -- a name in an expression names an object, a function or an enumerator; where it is a function or a static object, that one is
 -- defined, or is a function of the library, and the object has its number among the objects
