@@ -146,3 +146,67 @@ module _ (tokens : List Token) (t : Tree) (derived : IsTreeOf tokens t) (quiet :
               how : ((has_kid d.owner 1 ≡ false) × (d.whole ≡ d.type)) ⊎ ((is_object e.entity ≡ true) × Completes (places t) (take e.owner (judgements_at (places t))) e d.type d.whole) → ⊥
               how (inl x) = true≢false (sym un.initialized ∙ x.0)
               how (inr x) = no_object e.entity typedef x.0
+
+  -- what the declarator of a static object is asked: its type has its length from the initializer, or has a size
+  declared_size : (e : Name) → InList (places t).names e → (de : IsDeclaredName (category_at t) (nodes t) e) → (node_at (nodes t) e.owner).label.kind ≡ kind.InitDecl → is_static e.entity ≡ true → (d : Declared tokens t derived quiet e)
+      → is_unsized d.type ≡ false → has_size (layouts (take e.behind (judgements_at (places t)))) d.type ≡ true
+  declared_size e m de init static d un =
+      let p = places t in
+      let js = take e.behind (judgements_at p) in
+      let made = d.made in
+      let node = found_at (nodes t) e.behind de.whole.node de.whole.at in
+      let number = (l.shapes.tiled e.behind de.whole.node de.whole.at).numbered in
+      let owner : (parent_of (nodes t) (node_at (nodes t) e.behind).id).label.kind ≡ kind.InitDecl =
+      ap (λ (x : Node). (parent_of (nodes t) x.id).label.kind) node
+      ∙ (ap (λ i. (parent_of (nodes t) i).label.kind) number
+      ∙ (ap (λ (x : Node). (node_at (nodes t) x.parent).label.kind) node ∙ (ap (λ i. (node_at (nodes t) i).label.kind) (sym de.owner) ∙ init))) in
+      let name : name_of p (node_at (nodes t) e.behind).first ≡ Some e = ap (λ (x : Node). name_of p x.first) node ∙ (ap (λ i. name_of p i) de.first ∙ named tokens t derived quiet e m) in
+      let at = (node_at (nodes t) e.behind).id in
+      let keeps : declared_faults p js e d.type at false static_object ≡ [] =
+      ap (λ k. declared_faults p js e d.type at false k) (sym (static_is e.entity static))
+      ∙ (ap₂ (λ o k. whole_by p js (node_at (nodes t) e.behind) d.type o k) (sym name) (sym owner) ∙ made.keeps) in
+      let size = (fronts_empty (object_size (layouts js) d.type at) (name_faults p js e d.type at false) keeps).0 in
+      has_or (has_size (layouts js) d.type) at (sym (ap (λ b. if b then [] else incomplete_type (layouts js) d.type at) un) ∙ size)
+
+  sized : (e : Name) → InList (places t).names e → is_static e.entity ≡ true → IsSized t e
+  sized e m static = by (stand tokens t derived quiet e m)
+    where
+      js : List Judgement
+      js = judgements_at (places t)
+      first : (a b : Bool) → a ≡ true → (a || b) ≡ true
+      first true b h = refl
+      first false b h = no h
+      by : Stands (category_at t) (nodes t) e → IsSized t e
+      by (inl en) = no (ap is_static (sym en.entity) ∙ static)
+      by (inr de) = from (declared tokens t derived quiet e m de init)
+        where
+          init : (node_at (nodes t) e.owner).label.kind ≡ kind.InitDecl
+          init = de.init_owner (first (is_static e.entity) (is_typedef e.entity) static)
+          from : Declared tokens t derived quiet e → IsSized t e
+          from d = record {
+            type = d.whole;
+            typed = ap (λ o. if is_some o then o else type_at js e.behind) typed;
+            has = sized_later js e.behind d.whole (size (is_unsized d.type) refl d.how);
+          }
+            where
+              typed : type_at js e.owner ≡ Some d.whole
+              typed = ap type_of d.means_whole
+              size : (b : Bool) → is_unsized d.type ≡ b → ((has_kid d.owner 1 ≡ false) × (d.whole ≡ d.type)) ⊎ ((is_object e.entity ≡ true) × Completes (places t) (take e.owner js) e d.type d.whole)
+                  → has_size (layouts (take e.behind js)) d.whole ≡ true
+              size false h (inl x) = ap (λ u. has_size (layouts (take e.behind js)) u) x.1 ∙ declared_size e m de init static d h
+              size false h (inr x) = ap (λ u. has_size (layouts (take e.behind js)) u) (x.1.is ∙ completed_other d.type x.1.count h) ∙ declared_size e m de init static d h
+              size true h o = cases (unmeasured e de init d (λ k lt. all_lengthy k) h) o
+                where
+                  cases : Unmeasured e d → ((has_kid d.owner 1 ≡ false) × (d.whole ≡ d.type)) ⊎ ((is_object e.entity ≡ true) × Completes (places t) (take e.owner js) e d.type d.whole)
+                      → has_size (layouts (take e.behind js)) d.whole ≡ true
+                  cases un (inl x) = absurd (true≢false (sym un.initialized ∙ x.0))
+                  cases un (inr x) = completed_size (places t) (take e.owner js) e d.type d.whole (layouts (take e.behind js)) h un.element x.1
+
+  pub object_sized : (k : ℕ) (e : Name) → slice_get (objects_of (places t)) k ≡ Some e → IsSized t e
+  object_sized k e at =
+      let r = from_filter (λ e. is_static e.entity && length (earlier (places t) e) == 0 && is_defined_object (places t) e) (places t).names e (record { index = k; at = at }) in
+      sized e r.0 (static_first (is_static e.entity) (length (earlier (places t) e) == 0) (is_defined_object (places t) e) r.1)
+    where
+      static_first : (a b c : Bool) → (a && b && c) ≡ true → a ≡ true
+      static_first true b c h = refl
+      static_first false b c h = no h

@@ -16,7 +16,7 @@ use Rattle.c_typing.specs.Expressions.{variable, variable_by}
 use Rattle.c_typing.specs.Rules.{broken_if}
 use Rattle.c_typing.specs.Typing.{judged_by, faults}
 use Rattle.c_typing.specs.ShapesOfNodes.{category_at}
-use Rattle.c_typing.specs.Meant.{judgements, HasType}
+use Rattle.c_typing.specs.Meant.{judgements}
 use Rattle.c_typing.proofs.ProgressAll.{fronts_empty, no_fault, all_meant}
 use Rattle.c_typing.proofs.ProgressPlaces.{AreLinked, are_linked}
 use Rattle.c_typing.proofs.ProgressInitials.{specials}
@@ -63,36 +63,3 @@ at_name P (x ∷ es) zero e h at = same at
     same : Some x ≡ Some e → P e
     same f = let equal : x ≡ e = cc f in subst (λ (y : Name). P y) equal h.0
 at_name P (x ∷ es) (suc k) e h at = at_name P es k e h.1 at
-
-static_first : (a b c : Bool) → (a && b && c) ≡ true → a ≡ true
-static_first true b c e = refl
-static_first false b c e = no e
-
-pub object_typed : (tokens : List Token) (t : Tree) (k : ℕ) (e : Name) → IsTreeOf tokens t → faults t ≡ [] → slice_get (objects_of (places t)) k ≡ Some e → HasType t e
-object_typed tokens t k e derived quiet at =
-    let f = at_name (λ e. Stands (category_at t) (nodes t) e × (is_object e ≡ true)) (objects_of p) k e
-    (all_filter (Stands (category_at t) (nodes t)) is_object p.names (all_names_stand (category_at t) (nodes t) l p.scopes)) at in
-    by f.0 (static_first (is_static e.entity) (length (earlier p e) == 0) (is_defined_object p e) f.1)
-  where
-    p : Places
-    p = places t
-
-    l : AreLinked (category_at t) (nodes t)
-    l = are_linked tokens t derived
-
-    is_object : Name → Bool
-    is_object e = is_static e.entity && length (earlier p e) == 0 && is_defined_object p e
-
-    named : (o : Option CType) → Has (type_at (judgements t) e.behind) → Has (if is_some o then o else type_at (judgements t) e.behind)
-    named None h = h
-    named (Some u) h = record { value = u; is = refl }
-
-    by : Stands (category_at t) (nodes t) e → is_static e.entity ≡ true → HasType t e
-    by (inl en) static = no (ap is_static (sym en.entity) ∙ static)
-    by (inr de) static =
-        let w = de.whole in
-        let meant = all_meant (category_at t) p l.shapes (no_fault t quiet).by_node (specials (category_at t) p l (record { names = refl; functions = refl })) e.behind w.node w.at in
-        let outer = kind_at (nodes t) w.node.parent in
-        let u = has_its_type outer w.node.label.kind (category_at t e.behind) (judgement_at (judgements t) e.behind) (ap (λ c. has_type outer c) w.is ∙ w.whole) meant in
-        let n = named (type_at (judgements t) e.owner) (record { value = u.value; is = u.is }) in
-        record { type = n.value; typed = n.is }

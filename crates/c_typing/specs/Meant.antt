@@ -123,11 +123,6 @@ pub record IsMeant (t : Tree) (n : ℕ) (m : Node) : Type 0 where
 
 -- ---- what the unit is put together from
 
--- an object has a type
-pub record HasType (t : Tree) (e : Name) : Type 0 where
-  pub type : CType
-  pub typed : type_of_name (judgements t) e ≡ Some type
-
 -- an object has a type, and the type has a size
 pub record IsSized (t : Tree) (e : Name) : Type 0 where
   pub type : CType

@@ -12,7 +12,7 @@ ghost use Rattle.c_typing.specs.Places.{Node, nodes};
 ghost use Rattle.c_typing.specs.ShapesOfNodes.{IsPlaced, HasParent};
 ghost use Rattle.c_types.specs.declared.tree.Unit.{Unit};
 ghost use Rattle.c_typing.specs.Typing.{faults, IsTyped};
-ghost use Rattle.c_typing.specs.Meant.{IsMeant, IsSound, HasType, IsUsed, IsLocal, HasOneUnit, IsBroken, IsTooBig};
+ghost use Rattle.c_typing.specs.Meant.{IsMeant, IsSound, IsSized, IsUsed, IsLocal, HasOneUnit, IsBroken, IsTooBig};
 ghost use Rattle.c_typing.specs.Names.{Name, places, objects_of, is_automatic};
 ghost use Rattle.c_syntax.specs.declared.kind.SynKind.TheVariants as kind;
 ghost use Rattle.c_typing.specs.Shapes.{Category, unit, category_of, categories_of, kids_fit, stands_in, are_shaped, IsShapedAt, Fits, lowest_kind, begins_with, IsReadByNames};
@@ -68,7 +68,7 @@ pub fn nodes()
 
 /// One typing: a tree that some token list derives is typed as exactly one unit, or breaks a rule at one of its nodes, or has a
 /// size above the limit at one; and where a tree is typed, neither of the others holds. Where no rule is broken and no size is
-/// above the limit, each node has a meaning, with the form of its category; each object has a type; an automatic one stands in a
+/// above the limit, each node has a meaning, with the form of its category; each object has a type with a size; an automatic one stands in a
 /// function, and has its place there; and what a name in an expression names is no type, and is defined.
 pub fn progress()
     ensures one_typing { (tokens : List Token) (t : Tree) → IsTreeOf tokens t → HasOneUnit t ⊎ (IsBroken t ⊎ IsTooBig t) }
@@ -82,7 +82,7 @@ pub fn progress()
         → IsTreeOf tokens t
         → faults t ≡ []
         → slice_get (objects_of (places t)) k ≡ Some e
-        → HasType t e }
+        → IsSized t e }
     ensures locals { (tokens : List Token) (t : Tree) (k : ℕ) (e : Name)
         → IsTreeOf tokens t
         → slice_get (places t).names k ≡ Some e

@@ -1,6 +1,6 @@
 use Rattle.c_typing.proofs.ProgressMeant.{meant, sound}
 use Rattle.c_typing.proofs.BoundsTree.{one_typing}
-use Rattle.c_typing.proofs.ProgressUsed.{object_typed}
+use Rattle.c_typing.proofs.ProgressSized.{object_sized}
 use Rattle.c_typing.proofs.ProgressUses.{used}
 use Rattle.c_typing.proofs.ProgressLocals.{local_there}
 use Rattle.c_typing.proofs.laws.progress.Goals as goal
@@ -15,7 +15,7 @@ pub returns-clause-meant : goal.returns-clause-meant
 returns-clause-meant c tokens t n m derived quiet e = meant tokens t n m derived quiet e
 
 pub returns-clause-objects : goal.returns-clause-objects
-returns-clause-objects c tokens t k e derived quiet at = object_typed tokens t k e derived quiet at
+returns-clause-objects c tokens t k e derived quiet at = object_sized tokens t derived quiet k e at
 
 pub returns-clause-uses : goal.returns-clause-uses
 returns-clause-uses c tokens t n m derived quiet e same = used tokens t n m derived quiet e same
