@@ -55,7 +55,6 @@ pub mod ProgressUsed
 pub mod ProgressShapes
 pub mod RowsNames
 pub mod ProgressUnique
-pub mod ProgressChecked
 pub mod ProgressNumbers
 pub mod ProgressObjects
 pub mod ProgressUses

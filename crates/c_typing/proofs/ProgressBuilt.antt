@@ -1,14 +1,14 @@
 -- How the type of a whole declarator is built, and where an array has no length yet.
-use Rattle.std.proofs.Common.{◌≡◌, ℕ, zero, suc, ◌+◌, Bool, true, false, not, ◌&&◌, ◌||◌, List, [], ◌∷◌, ◌++◌, length, map, Option, Some, None, refl, sym, ap, ap₂, ◌∙◌, subst, true≢false, ◌⊎◌, inl, inr}
-use Rattle.std.specs.Prelude.{slice_get, unwrap_or, take, if◌then◌else◌, filter_map}
+use Rattle.std.proofs.Common.{◌≡◌, ℕ, Bool, true, false, not, ◌&&◌, ◌||◌, List, [], ◌∷◌, ◌++◌, length, map, Option, Some, None, refl, sym, ap, ◌∙◌, subst, true≢false, ◌⊎◌, inl, inr}
+use Rattle.std.specs.Prelude.{if◌then◌else◌, filter_map}
 use Rattle.c_syntax.specs.declared.kind.SynKind.{SynKind}
 use Rattle.c_syntax.specs.declared.kind.SynKind.TheVariants as kind
-use Rattle.c_typing.specs.Types.{types_of, CType, void, integer, pointer, array, unsized, struct, function, is_unsized, element_of, has_size, Layout}
+use Rattle.c_typing.specs.Types.{types_of, CType, is_unsized, element_of, has_size, Layout}
 use Rattle.c_typing.specs.Places.{Node, kid, has_kid, other_kids, parent_of, specs_of, is_whole, is_declarator, is_init, is_next_to_name, node_at, whole_declarator}
-use Rattle.c_typing.specs.Names.{Places, Name, name_of}
-use Rattle.c_typing.specs.Judgements.{Fault, Typing, Meaning, declares, steps, expresses, PlacedStep, Step, to_pointer, of_array, of_unsized, of_function, Judgement, means, breaks_rules, waits, verdict, given, besides, all_of, typing_at, type_at, steps_at, layouts, typing_of}
+use Rattle.c_typing.specs.Names.{Places, name_of}
+use Rattle.c_typing.specs.Judgements.{Fault, Typing, Meaning, declares, steps, expresses, PlacedStep, Step, to_pointer, of_array, of_unsized, of_function, Judgement, means, breaks_rules, waits, verdict, given, besides, all_of, typing_at, type_at, steps_at, layouts}
 use Rattle.c_typing.specs.Rules.{many_parameters, bad_parameter, absent_length, broken_if}
-use Rattle.c_typing.specs.Declarators.{word_in, Built, built, whole_by, whole_type, declarator, build, stepped_from, with_step, adjusted, pointer_declarator, is_parameter_length, is_given_by_initializer, absent_length_step, length_faults, length_step, array_declarator, function_declarator}
+use Rattle.c_typing.specs.Declarators.{word_in, built, whole_by, whole_type, declarator, build, stepped_from, with_step, adjusted, pointer_declarator, is_parameter_length, is_given_by_initializer, absent_length_step, length_faults, length_step, array_declarator, function_declarator}
 use Rattle.c_typing.specs.Typing.{judged_by, in_parentheses}
 
 no : {A : Type 0} → false ≡ true → A
@@ -126,7 +126,13 @@ module _ (p : Places) (js : List Judgement) (node : Node) where
   unfolding whole_type
   whole_traces ss base e h t [] same none =
       verdict_traces _ _ (λ keeps. record {
-        steps = ss; base = base; typed = e; is = ap (λ u. adjusted (parent_of p.nodes node.id).label.kind u) same; fine = sym none; keeps = keeps; given_length = h;
+        steps = ss;
+        base = base;
+        typed = e;
+        is = ap (λ u. adjusted (parent_of p.nodes node.id).label.kind u) same;
+        fine = sym none;
+        keeps = keeps;
+        given_length = h;
       })
   whole_traces ss base e h t (f ∷ fs) same none = never (breaks_rules f fs) refl refl
 

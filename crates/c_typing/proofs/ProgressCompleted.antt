@@ -1,18 +1,18 @@
 -- The type of a declarator with an initializer: that of the declarator, or the array that the initializer completes.
-use Rattle.std.proofs.Common.{◌≡◌, ℕ, zero, suc, ◌+◌, Bool, true, false, not, ◌&&◌, ◌||◌, List, [], ◌∷◌, ◌++◌, Option, Some, None, refl, sym, ap, ap₂, ◌∙◌, subst, true≢false, ◌⊎◌, inl, inr}
-use Rattle.std.specs.Prelude.{slice_get, unwrap_or, if◌then◌else◌, option_map}
+use Rattle.std.proofs.Common.{◌≡◌, ℕ, Bool, true, false, List, [], ◌∷◌, ◌++◌, Option, Some, None, refl, sym, ap, ◌∙◌, subst, true≢false, ◌⊎◌, inl, inr}
+use Rattle.std.specs.Prelude.{unwrap_or, if◌then◌else◌, option_map}
 use Rattle.std.specs.Option.{is_some}
 use Rattle.c_types.specs.Sizes.{array_measure}
 use Rattle.c_types.specs.declared.kind.Measure.{Measure}
 use Rattle.c_types.specs.declared.tree.Stmt.{Stmt}
 use Rattle.c_types.specs.declared.tree.Cell.{Cell}
-use Rattle.c_typing.specs.Types.{size_of, CType, array, unsized, is_unsized, has_size, element_of, measure, Layout}
+use Rattle.c_typing.specs.Types.{size_of, CType, unsized, is_unsized, has_size, element_of, measure, Layout}
 use Rattle.c_typing.specs.Places.{Node, nowhere, kid, has_kid, node_at, kind_at, next_to_name}
 use Rattle.c_typing.specs.Names.{Places, Name, is_static, name_of}
-use Rattle.c_typing.specs.Judgements.{Fault, Meaning, initialized, Judgement, means, breaks_rules, waits, verdict, given, type_at, layouts}
-use Rattle.c_typing.specs.Rules.{declared_twice, size_fault, absent_length, bad_initializer}
+use Rattle.c_typing.specs.Judgements.{Fault, initialized, Judgement, means, verdict, given, type_at, layouts}
+use Rattle.c_typing.specs.Rules.{declared_twice, size_fault, absent_length}
 use Rattle.c_typing.specs.Declarators.{type_before}
-use Rattle.c_typing.specs.Initializers.{Part, part_for, is_object, completed, completed_faults, given_count, object_code, initialized_object, bare_code, init_by, init_declarator}
+use Rattle.c_typing.specs.Initializers.{Part, part_for, is_object, completed, completed_faults, given_count, object_code, initialized_object, init_by, init_declarator}
 use Rattle.c_typing.proofs.ProgressAll.{fronts_empty}
 
 no : {A : Type 0} → false ≡ true → A
@@ -59,7 +59,10 @@ module _ (p : Places) (js : List Judgement) (node : Node) where
           → InitReaches p js node (verdict fs (initialized (completed t (given_count p js (node_at p.nodes n) (kind_at p.nodes n))) (object_code p js e (completed t (given_count p js (node_at p.nodes n) (kind_at p.nodes n))) n e.entity) q.cells))
       by [] h = record {
         made = λ u ss cs f. subst (λ (v : CType). InitMade p js node v) (type_same f) (record {
-          type = t; typed = typed; name = e; named = named;
+          type = t;
+          typed = typed;
+          name = e;
+          named = named;
           how = inr (object, record { count = given_count p js (node_at p.nodes n) (kind_at p.nodes n); is = refl; node = (unwrap_or (next_to_name p.nodes e.node) nowhere).id; fine = (h refl).1 });
         });
       }
@@ -91,14 +94,17 @@ completed_size p js e (unsized v) u ls s h c = by c.count c.is
     sized : (o : Option Measure) → is_some o ≡ true → (n : ℕ) → is_some (option_map (array_measure n) o) ≡ true
     sized None e n = no e
     sized (Some m) e n = refl
+
     by : (o : Option ℕ) → u ≡ completed (unsized v) o → has_size ls u ≡ true
     by (Some n) same = ap (λ w. has_size ls w) same ∙ sized (measure ls v) h n
     by None same = no (sym (length_there (is_unsized u) refl) ∙ (ap is_unsized same))
       where
         faults : List Fault
         faults = if is_unsized u then absent_length c.node else size_fault (size_of (layouts js) u) c.node
+
         none : faults ≡ []
         none = (fronts_empty faults (declared_twice p e u (type_before p js e) e.node) c.fine).0
+
         length_there : (b : Bool) → is_unsized u ≡ b → is_unsized u ≡ false
         length_there false e = e
         length_there true e = absurd (never (sym (ap (λ b. if b then absent_length c.node else size_fault (size_of (layouts js) u) c.node) e) ∙ none))

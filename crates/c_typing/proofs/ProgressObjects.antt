@@ -21,7 +21,6 @@ use Rattle.c_typing.specs.Typing.{judgements_at, faults}
 use Rattle.c_typing.specs.Shapes as category
 use Rattle.c_typing.specs.Shapes.{Category, category_by}
 use Rattle.c_typing.specs.ShapesOfNodes.{category_at}
-use Rattle.c_typing.proofs.ProgressBase.{judged_at}
 use Rattle.c_typing.proofs.ProgressForms.{Has, fits, split}
 use Rattle.c_typing.proofs.ProgressKinds as of
 use Rattle.c_typing.proofs.ProgressAll.{fronts_empty, no_fault, all_meant, found_at, by_number}
@@ -31,7 +30,7 @@ use Rattle.c_typing.proofs.ProgressInitials.{specials}
 use Rattle.c_typing.proofs.ProgressDeclared.{AllNames, Stands, IsDeclaredName, all_names_stand}
 use Rattle.c_typing.proofs.ProgressUsed.{at_name}
 use Rattle.c_typing.proofs.ProgressUnique.{InOrder, found_itself, in_order}
-use Rattle.c_typing.proofs.ProgressChecked.{checked}
+use Rattle.c_typing.proofs.ProgressParts.{made_at}
 use Rattle.c_typing.proofs.ProgressNumbers.{InList, in_filter, from_filter, last_in, place_of, split_two, again_same, same_again, First}
 
 no : {A : Type 0} → false ≡ true → A
@@ -128,10 +127,9 @@ module _ (tokens : List Token) (t : Tree) (derived : IsTreeOf tokens t) (quiet :
       let meant = all_meant (category_at t) p l.shapes (no_fault t quiet).by_node (specials (category_at t) p l (record { names = refl; functions = refl })) e.behind w.node w.at in
       let outer = kind_at (nodes t) w.node.parent in
       let d = declares_type outer w.node.label.kind (judgement_at js e.behind) w.whole (ap (λ c. fits outer w.node.label.kind c (judgement_at js e.behind)) (sym w.is) ∙ meant) in
-      let own = judged_at p p.nodes e.behind w.node w.at in
       let shape = l.shapes.shaped e.behind w.node w.at in
       let declares = kind_declares w.node.label.kind w.node.label.text (map (category_at t) w.node.kids) (ap of.is_declarator_only (sym shape.category ∙ w.is)) in
-      let c = checked p (take e.behind js) w.node w.node.label.kind d.type declares (sym own ∙ d.is) in
+      let c = made_at tokens t derived quiet e.behind w.node w.at declares d.type d.is in
       let name : name_of p w.node.first ≡ Some e = ap (λ i. name_of p i) de.first ∙ named e m in
       let number = (l.shapes.tiled e.behind w.node w.at).numbered in
       let owner : (parent_of p.nodes w.node.id).label.kind ≡ kind.InitDecl =
@@ -139,10 +137,10 @@ module _ (tokens : List Token) (t : Tree) (derived : IsTreeOf tokens t) (quiet :
       ∙ (ap (λ (x : Node). (node_at p.nodes x.parent).label.kind) (found_at p.nodes e.behind w.node w.at)
       ∙ (ap (λ i. (node_at p.nodes i).label.kind) (sym de.owner) ∙ de.init_owner (or_first (is_static e.entity) (is_typedef e.entity) static))) in
       record {
-        type = c.type;
+        type = d.type;
         node = w.node.id;
-        keeps = ap (λ k. declared_faults p (take e.behind js) e c.type w.node.id false k) (sym (static_is e.entity static))
-            ∙ (ap₂ (λ o k. whole_by p (take e.behind js) w.node c.type o k) (sym name) (sym owner) ∙ c.keeps);
+        keeps = ap (λ k. declared_faults p (take e.behind js) e d.type w.node.id false k) (sym (static_is e.entity static))
+            ∙ (ap₂ (λ o k. whole_by p (take e.behind js) w.node d.type o k) (sym name) (sym owner) ∙ c.keeps);
       }
 
   -- the first declaration of an object

@@ -1,5 +1,5 @@
 -- Where a part of a declarator is an array without a length, the declarator has an initializer.
-use Rattle.std.proofs.Common.{◌≡◌, ℕ, zero, suc, ◌+◌, ◌<◌, ◌≤◌, Bool, true, false, not, ◌&&◌, ◌||◌, List, [], ◌∷◌, length, map, Option, Some, None, refl, sym, ap, ap₂, ◌∙◌, subst, arith, true≢false, ◌⊎◌, inl, inr}
+use Rattle.std.proofs.Common.{◌≡◌, ℕ, ◌<◌, Bool, true, false, not, List, [], ◌∷◌, map, Some, refl, sym, ap, ◌∙◌, true≢false}
 use Rattle.std.specs.Prelude.{slice_get, unwrap_or, take, if◌then◌else◌}
 use Rattle.c_lexer.specs.declared.token.Token.{Token}
 use Rattle.c_syntax.specs.declared.kind.SynKind.{SynKind}
@@ -9,16 +9,16 @@ use Rattle.c_grammar.specs.Derivation.{IsTreeOf}
 use Rattle.c_grammar.specs.Vocabulary.{is_type_word, is_storage_word}
 use Rattle.c_typing.specs.Types.{CType}
 use Rattle.c_typing.specs.Places.{Node, nodes, kid, kind_at, is_declarator}
-use Rattle.c_typing.specs.Names.{Places, places}
+use Rattle.c_typing.specs.Names.{places}
 use Rattle.c_typing.specs.Judgements.{Judgement, means, breaks_rules, waits, Meaning, steps, declares, PlacedStep, judgement_at, steps_of, steps_at}
-use Rattle.c_typing.specs.Typing.{judged_by, judgements_at, faults}
+use Rattle.c_typing.specs.Typing.{judgements_at, faults}
 use Rattle.c_typing.specs.Shapes as category
 use Rattle.c_typing.specs.Shapes.{Category, category_by, kids_fit}
 use Rattle.c_typing.specs.ShapesOfNodes.{category_at}
 use Rattle.c_typing.specs.Meant.{has_form}
 use Rattle.c_typing.proofs.ProgressBase.{judged_at, earlier_at}
 use Rattle.c_typing.proofs.ProgressForms.{fits, is_part, split}
-use Rattle.c_typing.proofs.ProgressKids.{Kid, kid_of}
+use Rattle.c_typing.proofs.ProgressKids.{kid_of}
 use Rattle.c_typing.proofs.ProgressAll.{no_fault, all_meant, by_number}
 use Rattle.c_typing.proofs.ProgressPlaces.{AreLinked, are_linked}
 use Rattle.c_typing.proofs.ProgressWhole.{first_begins}
@@ -55,6 +55,7 @@ steps_means (means m) ss e = by m e
   where
     same : {xs ys : List PlacedStep} → Some xs ≡ Some ys → xs ≡ ys
     same f = cc f
+
     by : (m : Meaning) → steps_of (means m) ≡ Some ss → means m ≡ means (steps ss)
     by (steps xs) e = ap (λ ys. means (steps ys)) (same e)
     by _ e = absurd (cc e)

@@ -1,30 +1,27 @@
 -- The type of each object has a size.
-use Rattle.std.proofs.Common.{◌≡◌, ℕ, zero, suc, ◌+◌, ◌<◌, ◌≤◌, Bool, true, false, not, ◌&&◌, ◌||◌, List, [], ◌∷◌, ◌++◌, length, map, Option, Some, None, refl, sym, ap, ap₂, ◌∙◌, subst, arith, true≢false, ◌⊎◌, inl, inr}
-use Rattle.std.specs.Prelude.{slice_get, unwrap_or, take, find, if◌then◌else◌, option_map, ◌==◌}
+use Rattle.std.proofs.Common.{◌≡◌, ℕ, zero, suc, ◌<◌, Bool, true, false, not, ◌&&◌, ◌||◌, List, [], ◌∷◌, ◌++◌, length, Option, Some, None, refl, sym, ap, ap₂, ◌∙◌, arith, true≢false, ◌⊎◌, inl, inr}
+use Rattle.std.specs.Prelude.{slice_get, take, if◌then◌else◌, option_map, ◌==◌}
 use Rattle.std.specs.Option.{is_some}
 use Rattle.c_lexer.specs.declared.token.Token.{Token}
-use Rattle.c_syntax.specs.declared.kind.SynKind.{SynKind}
 use Rattle.c_syntax.specs.declared.kind.SynKind.TheVariants as kind
 use Rattle.c_syntax.specs.Trees.{Tree}
 use Rattle.c_grammar.specs.Derivation.{IsTreeOf}
 use Rattle.c_types.specs.declared.kind.Measure.{Measure}
 use Rattle.c_types.specs.Sizes.{array_measure}
 use Rattle.c_typing.specs.Types.{CType, void, integer, pointer, array, unsized, struct, function, Layout, layout_of, measure, is_unsized, has_size, element_of}
-use Rattle.c_typing.specs.Places.{Node, nodes, node_at, kind_at, parent_of, specs_of, has_kid}
-use Rattle.c_typing.specs.Names.{Entity, static_object, Name, Places, places, is_typedef, is_static, earlier, is_defined_object, objects_of, name_of}
-use Rattle.c_typing.specs.Judgements.{Fault, Judgement, means, declares, judgement_at, type_at, type_of, layouts}
-use Rattle.c_typing.specs.Expressions.{type_of_name}
+use Rattle.c_typing.specs.Places.{Node, nodes, node_at, parent_of, specs_of, has_kid}
+use Rattle.c_typing.specs.Names.{static_object, Name, places, is_typedef, is_static, earlier, is_defined_object, objects_of, name_of}
+use Rattle.c_typing.specs.Judgements.{Judgement, type_at, type_of, layouts}
 use Rattle.c_typing.specs.Rules.{incomplete_type, broken_if}
 use Rattle.c_typing.specs.Declarators.{adjusted, build, object_size, name_faults, declared_faults, whole_by}
 use Rattle.c_typing.specs.Initializers.{is_object}
 use Rattle.c_typing.specs.Typing.{judgements_at, faults}
-use Rattle.c_typing.specs.Shapes as category
 use Rattle.c_typing.specs.ShapesOfNodes.{category_at}
-use Rattle.c_typing.specs.Meant.{judgements, IsSized}
+use Rattle.c_typing.specs.Meant.{IsSized}
 use Rattle.c_typing.proofs.ProgressForms.{is_part}
 use Rattle.c_typing.proofs.ProgressAll.{fronts_empty, found_at, by_number}
-use Rattle.c_typing.proofs.ProgressPlaces.{AreLinked, are_linked, some_same}
-use Rattle.c_typing.proofs.ProgressOwners.{is_specs, Before, specs_before}
+use Rattle.c_typing.proofs.ProgressPlaces.{AreLinked, are_linked}
+use Rattle.c_typing.proofs.ProgressOwners.{specs_before}
 use Rattle.c_typing.proofs.ProgressTargets.{layouts_front, found_front}
 use Rattle.c_typing.proofs.ProgressDeclared.{Stands, IsDeclaredName}
 use Rattle.c_typing.proofs.ProgressNumbers.{InList, from_filter}
@@ -100,19 +97,25 @@ module _ (tokens : List Token) (t : Tree) (derived : IsTreeOf tokens t) (quiet :
     where
       js : List Judgement
       js = take e.behind (judgements_at (places t))
+
       made : Made (places t) (take e.behind (judgements_at (places t))) (node_at (nodes t) e.behind) d.type
       made = d.made
+
       node : node_at (nodes t) e.behind ≡ de.whole.node
       node = found_at (nodes t) e.behind de.whole.node de.whole.at
+
       number : de.whole.node.id ≡ e.behind
       number = (l.shapes.tiled e.behind de.whole.node de.whole.at).numbered
+
       owner : (parent_of (nodes t) (node_at (nodes t) e.behind).id).label.kind ≡ kind.InitDecl
       owner =
           ap (λ (x : Node). (parent_of (nodes t) x.id).label.kind) node
           ∙ (ap (λ i. (parent_of (nodes t) i).label.kind) number
           ∙ (ap (λ (x : Node). (node_at (nodes t) x.parent).label.kind) node ∙ (ap (λ i. (node_at (nodes t) i).label.kind) (sym de.owner) ∙ init)))
+
       is : d.type ≡ (build (layouts js) made.base made.steps).type
       is = made.is ∙ ap (λ k. adjusted k (build (layouts js) made.base made.steps).type) owner
+
       by : ((has_unsized made.steps ≡ true) × (has_size (layouts js) (element_of (build (layouts js) made.base made.steps).type) ≡ true)) ⊎ (is_unsized made.base ≡ true) → Unmeasured e d
       by (inl r) =
           let given = made.given_length r.0 in
@@ -143,6 +146,7 @@ module _ (tokens : List Token) (t : Tree) (derived : IsTreeOf tokens t) (quiet :
             where
               un : Unmeasured e d
               un = unmeasured e de init d (λ k lt. f k (omega (arith, lt, same))) h
+
               how : ((has_kid d.owner 1 ≡ false) × (d.whole ≡ d.type)) ⊎ ((is_object e.entity ≡ true) × Completes (places t) (take e.owner (judgements_at (places t))) e d.type d.whole) → ⊥
               how (inl x) = true≢false (sym un.initialized ∙ x.0)
               how (inr x) = no_object e.entity typedef x.0
@@ -173,15 +177,18 @@ module _ (tokens : List Token) (t : Tree) (derived : IsTreeOf tokens t) (quiet :
     where
       js : List Judgement
       js = judgements_at (places t)
+
       first : (a b : Bool) → a ≡ true → (a || b) ≡ true
       first true b h = refl
       first false b h = no h
+
       by : Stands (category_at t) (nodes t) e → IsSized t e
       by (inl en) = no (ap is_static (sym en.entity) ∙ static)
       by (inr de) = from (declared tokens t derived quiet e m de init)
         where
           init : (node_at (nodes t) e.owner).label.kind ≡ kind.InitDecl
           init = de.init_owner (first (is_static e.entity) (is_typedef e.entity) static)
+
           from : Declared tokens t derived quiet e → IsSized t e
           from d = record {
             type = d.whole;
@@ -191,6 +198,7 @@ module _ (tokens : List Token) (t : Tree) (derived : IsTreeOf tokens t) (quiet :
             where
               typed : type_at js e.owner ≡ Some d.whole
               typed = ap type_of d.means_whole
+
               size : (b : Bool) → is_unsized d.type ≡ b → ((has_kid d.owner 1 ≡ false) × (d.whole ≡ d.type)) ⊎ ((is_object e.entity ≡ true) × Completes (places t) (take e.owner js) e d.type d.whole)
                   → has_size (layouts (take e.behind js)) d.whole ≡ true
               size false h (inl x) = ap (λ u. has_size (layouts (take e.behind js)) u) x.1 ∙ declared_size e m de init static d h

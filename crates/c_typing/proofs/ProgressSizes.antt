@@ -1,6 +1,6 @@
 -- The types of typedef names have their lengths, and those of static objects have sizes.
-use Rattle.std.proofs.Common.{◌≡◌, ℕ, zero, suc, ◌+◌, ◌<◌, ◌≤◌, Bool, true, false, not, ◌&&◌, ◌||◌, List, [], ◌∷◌, ◌++◌, length, map, Option, Some, None, refl, sym, ap, ap₂, ◌∙◌, subst, arith, true≢false, ◌⊎◌, inl, inr}
-use Rattle.std.specs.Prelude.{slice_get, unwrap_or, take, if◌then◌else◌}
+use Rattle.std.proofs.Common.{◌≡◌, ℕ, zero, suc, ◌<◌, Bool, true, false, not, ◌||◌, List, [], ◌∷◌, map, Option, Some, None, refl, sym, ap, ◌∙◌, subst, arith, true≢false, ◌⊎◌, inl, inr}
+use Rattle.std.specs.Prelude.{slice_get, take, if◌then◌else◌}
 use Rattle.std.specs.Option.{is_some}
 use Rattle.std.specs.List.{list_all}
 use Rattle.c_lexer.specs.declared.token.Token.{Token}
@@ -9,12 +9,11 @@ use Rattle.c_syntax.specs.declared.kind.SynKind.TheVariants as kind
 use Rattle.c_syntax.specs.Trees.{Tree}
 use Rattle.c_grammar.specs.Derivation.{IsTreeOf}
 use Rattle.c_grammar.specs.Vocabulary.{is_type_word, is_storage_word}
-use Rattle.c_typing.specs.Types.{CType, is_unsized, has_size}
-use Rattle.c_typing.specs.Places.{Node, nodes, node_at, kind_at, parent_of, specs_of, is_declarator, has_kid}
-use Rattle.c_typing.specs.Names.{Entity, typedef_name, Name, Places, places, is_typedef, is_static, denoted}
-use Rattle.c_typing.specs.Judgements.{Judgement, means, breaks_rules, waits, Meaning, a_type, declares, initialized, judgement_at, type_at, type_of, layouts}
+use Rattle.c_typing.specs.Types.{CType, is_unsized}
+use Rattle.c_typing.specs.Places.{Node, nodes, kind_at, is_declarator, has_kid}
+use Rattle.c_typing.specs.Names.{Entity, typedef_name, Name, places, is_typedef, is_static, denoted}
+use Rattle.c_typing.specs.Judgements.{Judgement, means, breaks_rules, waits, Meaning, a_type, declares, judgement_at, type_at, type_of}
 use Rattle.c_typing.specs.Expressions.{type_of_name}
-use Rattle.c_typing.specs.Declarators.{adjusted, build}
 use Rattle.c_typing.specs.Initializers.{is_object}
 use Rattle.c_typing.specs.Typing.{judged_by, judgements_at, faults}
 use Rattle.c_typing.specs.Shapes as category
@@ -26,14 +25,13 @@ use Rattle.c_typing.proofs.ProgressForms.{fits, split, is_specifier}
 use Rattle.c_typing.proofs.ProgressKinds as of
 use Rattle.c_typing.proofs.ProgressStep.{at_all}
 use Rattle.c_typing.proofs.ProgressKids.{kid_of}
-use Rattle.c_typing.proofs.ProgressAll.{no_fault, all_meant, found_at, by_number}
+use Rattle.c_typing.proofs.ProgressAll.{no_fault, all_meant}
 use Rattle.c_typing.proofs.ProgressPlaces.{AreLinked, are_linked, some_same}
-use Rattle.c_typing.proofs.ProgressOwners.{is_specs, only_specs, Before, specs_before}
+use Rattle.c_typing.proofs.ProgressOwners.{is_specs, only_specs, Before}
 use Rattle.c_typing.proofs.ProgressInitials.{specials}
 use Rattle.c_typing.proofs.ProgressDeclared.{Stands, IsDeclaredName, of_denoted, begins_before}
 use Rattle.c_typing.proofs.ProgressNumbers.{InList}
 use Rattle.c_typing.proofs.ProgressObjects.{all_listed, stand}
-use Rattle.c_typing.proofs.ProgressBuilt.{Made, is_given, unsized_from}
 use Rattle.c_typing.proofs.ProgressCompleted.{Completes}
 use Rattle.c_typing.proofs.ProgressSpecs.{Plain, word_plain, struct_plain, enum_plain, specs_plain}
 use Rattle.c_typing.proofs.ProgressTyped.{Declared, declared}
@@ -87,6 +85,7 @@ typed_specs outer own (means m) u f e = by m (split f).0 e
   where
     same : {x y : CType} → Some x ≡ Some y → x ≡ y
     same h = cc h
+
     by : (m : Meaning) → has_form category.specifiers own (not (is_declarator outer)) m ≡ true → type_of (means m) ≡ Some u → means m ≡ means (a_type u)
     by (a_type t) g e = ap (λ x. means (a_type x)) (same e)
     by _ g e = no g
@@ -135,6 +134,7 @@ module _ (tokens : List Token) (t : Tree) (derived : IsTreeOf tokens t) (quiet :
     where
       js : List Judgement
       js = judgements_at (places t)
+
       by : InList (places t).names e → Stands (category_at t) (nodes t) e → e.behind < n → is_unsized u ≡ false
       by m (inl en) less = no (ap is_typedef (sym en.entity) ∙ typedef)
       by m (inr de) less = from (declared tokens t derived quiet e m de (de.init_owner (or_second (is_static e.entity) (is_typedef e.entity) typedef)))
@@ -144,12 +144,14 @@ module _ (tokens : List Token) (t : Tree) (derived : IsTreeOf tokens t) (quiet :
             where
               plain : is_unsized d.type ≡ false
               plain = f e.behind less e refl m de typedef d.type d.declares
+
               whole : d.whole ≡ d.type
               whole = how d.how
                 where
                   how : ((has_kid d.owner 1 ≡ false) × (d.whole ≡ d.type)) ⊎ ((is_object e.entity ≡ true) × Completes (places t) (take e.owner js) e d.type d.whole) → d.whole ≡ d.type
                   how (inl h) = h.1
                   how (inr h) = absurd (no_object e.entity typedef h.0)
+
               cases : (o : Option CType) → type_at (take k js) e.owner ≡ o → (if is_some o then o else type_at (take k js) e.behind) ≡ Some u → is_unsized u ≡ false
               cases (Some v) same h =
                   let equal : v ≡ u = some_same h in

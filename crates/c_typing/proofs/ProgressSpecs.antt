@@ -1,11 +1,10 @@
 -- The types that specs say have their lengths, where those of typedef names have.
-use Rattle.std.proofs.Common.{◌≡◌, ℕ, zero, suc, Bool, true, false, not, ◌&&◌, ◌||◌, List, [], ◌∷◌, ◌++◌, map, Option, Some, None, refl, sym, ap, ◌∙◌, subst, true≢false, ◌⊎◌, inl, inr}
+use Rattle.std.proofs.Common.{◌≡◌, ℕ, suc, Bool, true, false, ◌||◌, List, [], ◌∷◌, ◌++◌, map, Option, Some, None, refl, sym, ap, ◌∙◌, subst, true≢false}
 use Rattle.std.specs.Prelude.{slice_get, unwrap_or, if◌then◌else◌, filter, flat_map, find, option_map}
-use Rattle.c_syntax.specs.declared.kind.SynKind.{SynKind}
 use Rattle.c_syntax.specs.declared.kind.SynKind.TheVariants as kind
 use Rattle.c_grammar.specs.Vocabulary.{is_type_word, is_storage_word}
 use Rattle.c_typing.specs.Types.{CType, void, integer, int, struct, is_unsized}
-use Rattle.c_typing.specs.Places.{Node, kid, has_kid, kind_at, text_at, is_word}
+use Rattle.c_typing.specs.Places.{Node, has_kid, kind_at, text_at, is_word}
 use Rattle.c_typing.specs.Names.{Places, Name, is_typedef, denoted, tag_of}
 use Rattle.c_typing.specs.Judgements.{rule, Fault, Meaning, itself, a_type, a_struct, Judgement, means, breaks_rules, waits, verdict, besides, given, all_of, before, judgement_at}
 use Rattle.c_typing.specs.Rules.{bad_type_words, bad_storage_class, unknown_name}
@@ -87,11 +86,13 @@ meaning_plain j ts h e = by j h e
   where
     same : {xs ys : List CType} → Some xs ≡ Some ys → xs ≡ ys
     same f = cc f
+
     of : (m : Meaning) → Plain (means m) → spec_meaning (means m) ≡ Some ts → AllPlain ts
     of itself h e = subst (λ xs. AllPlain xs) (same e) tt
     of (a_type t) h e = subst (λ xs. AllPlain xs) (same e) (h.plain t refl, tt)
     of (a_struct l) h e = subst (λ xs. AllPlain xs) (same e) (refl, tt)
     of _ h e = absurd (cc e)
+
     by : (j : Judgement) → Plain j → spec_meaning j ≡ Some ts → AllPlain ts
     by (means m) h e = of m h e
     by (breaks_rules f fs) h e = absurd (cc e)
@@ -106,9 +107,11 @@ all_plain js (k ∷ ks) h tss e = by (spec_meaning (judgement_at js k)) (λ ts f
   where
     same : {xs ys : List (List CType)} → Some xs ≡ Some ys → xs ≡ ys
     same f = cc f
+
     more : (ts : List CType) → AllPlain ts → (q : Option (List (List CType))) → ((xs : List (List CType)) → q ≡ Some xs → AllPlain (flat_map (λ ts. ts) xs)) → before ts q ≡ Some tss → AllPlain (flat_map (λ ts. ts) tss)
     more ts f None g e = absurd (cc e)
     more ts f (Some xs) g e = subst (λ (ys : List (List CType)). AllPlain (flat_map (λ ts. ts) ys)) (same e) (plain_front ts (flat_map (λ ts. ts) xs) f (g xs refl))
+
     by : (o : Option (List CType)) → ((ts : List CType) → o ≡ Some ts → AllPlain ts)
         → ((xs : List (List CType)) → all_of (map (λ n. spec_meaning (judgement_at js n)) ks) ≡ Some xs → AllPlain (flat_map (λ ts. ts) xs))
         → all_of (o ∷ map (λ n. spec_meaning (judgement_at js n)) ks) ≡ Some tss → AllPlain (flat_map (λ ts. ts) tss)
@@ -126,6 +129,7 @@ module _ (p : Places) (js : List Judgement) (node : Node) where
           → Plain (if b then given (type_of_name js e) (λ t. means (a_type t)) else verdict (bad_type_words None node.id) itself)
       named e true same h = given_plain (type_of_name js e) (λ t. means (a_type t)) (λ t f. typed t (h same t f))
       named e false same h = other (breaks_rules (rule 1 node.id) []) refl
+
       by : (o : Option Name) → ((e : Name) (t : CType) → o ≡ Some e → is_typedef e.entity ≡ true → type_of_name js e ≡ Some t → is_unsized t ≡ false) → Plain (typedef_type js node o)
       by None h = other (breaks_rules (rule 1 node.id) []) refl
       by (Some e) h = named e (is_typedef e.entity) refl (λ s t f. h e t refl s f)

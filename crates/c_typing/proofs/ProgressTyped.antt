@@ -1,7 +1,6 @@
 -- Typedef names have types with their lengths, and static objects have types with sizes.
-use Rattle.std.proofs.Common.{◌≡◌, ℕ, zero, suc, ◌+◌, ◌<◌, ◌≤◌, Bool, true, false, not, ◌&&◌, ◌||◌, List, [], ◌∷◌, ◌++◌, length, map, Option, Some, None, refl, sym, ap, ap₂, ◌∙◌, subst, arith, true≢false, ◌⊎◌, inl, inr}
-use Rattle.std.specs.Prelude.{slice_get, get_or, unwrap_or, take, if◌then◌else◌, option_map, find, ◌==◌}
-use Rattle.std.specs.Option.{is_some}
+use Rattle.std.proofs.Common.{◌≡◌, ℕ, zero, suc, true, false, not, ◌&&◌, List, [], ◌∷◌, length, map, Some, refl, sym, ap, ◌∙◌, subst, arith, true≢false, ◌⊎◌, inl, inr}
+use Rattle.std.specs.Prelude.{slice_get, get_or, unwrap_or, take}
 use Rattle.c_lexer.specs.declared.token.Token.{Token}
 use Rattle.c_syntax.specs.declared.kind.SynKind.{SynKind}
 use Rattle.c_syntax.specs.declared.kind.SynKind.TheVariants as kind
@@ -9,12 +8,11 @@ use Rattle.c_syntax.specs.Trees.{Tree}
 use Rattle.c_grammar.specs.Derivation.{IsTreeOf}
 use Rattle.c_types.specs.declared.tree.Stmt.{Stmt}
 use Rattle.c_types.specs.declared.tree.Cell.{Cell}
-use Rattle.c_typing.specs.Types.{CType, is_unsized, has_size}
-use Rattle.c_typing.specs.Places.{Node, nodes, node_at, kind_at, kid, has_kid, parent_of, specs_of, is_declarator, is_init}
-use Rattle.c_typing.specs.Names.{Entity, Name, Places, places, is_typedef, is_static, name_of, denoted}
-use Rattle.c_typing.specs.Judgements.{Judgement, means, breaks_rules, waits, Meaning, initialized, declares, a_type, judgement_at, type_at, type_of, layouts}
-use Rattle.c_typing.specs.Expressions.{type_of_name}
-use Rattle.c_typing.specs.Initializers.{is_object, init_declarator, completed}
+use Rattle.c_typing.specs.Types.{CType}
+use Rattle.c_typing.specs.Places.{Node, nodes, node_at, kind_at, kid, has_kid, is_declarator, is_init}
+use Rattle.c_typing.specs.Names.{Name, Places, places, name_of}
+use Rattle.c_typing.specs.Judgements.{Judgement, means, breaks_rules, waits, Meaning, initialized, declares, judgement_at, type_at, type_of}
+use Rattle.c_typing.specs.Initializers.{is_object, init_declarator}
 use Rattle.c_typing.specs.Typing.{judged_by, judgements_at, faults}
 use Rattle.c_typing.specs.Shapes as category
 use Rattle.c_typing.specs.Shapes.{Category, no_category, category_by, kids_fit, at_most_one, is_initializer}
@@ -23,16 +21,16 @@ use Rattle.c_typing.specs.Meant.{has_form}
 use Rattle.c_typing.proofs.ProgressBase.{judged_at, earlier_at}
 use Rattle.c_typing.proofs.ProgressForms.{fits, split, is_part}
 use Rattle.c_typing.proofs.ProgressKinds as of
-use Rattle.c_typing.proofs.ProgressAll.{no_fault, all_meant, found_at, by_number}
+use Rattle.c_typing.proofs.ProgressAll.{no_fault, all_meant, found_at}
 use Rattle.c_typing.proofs.ProgressPlaces.{Linked, AreLinked, are_linked, parent_above, get_or_at, some_same}
 use Rattle.c_typing.proofs.ProgressInside.{kind_declares}
 use Rattle.c_typing.proofs.ProgressInitials.{specials}
-use Rattle.c_typing.proofs.ProgressDeclared.{Stands, IsDeclaredName}
+use Rattle.c_typing.proofs.ProgressDeclared.{IsDeclaredName}
 use Rattle.c_typing.proofs.ProgressNumbers.{InList}
-use Rattle.c_typing.proofs.ProgressObjects.{DeclaresType, declares_type, named}
-use Rattle.c_typing.proofs.ProgressBuilt.{Made, is_given, unsized_from}
+use Rattle.c_typing.proofs.ProgressObjects.{declares_type, named}
+use Rattle.c_typing.proofs.ProgressBuilt.{Made, is_given}
 use Rattle.c_typing.proofs.ProgressParts.{made_at}
-use Rattle.c_typing.proofs.ProgressCompleted.{InitMade, Completes, init_made}
+use Rattle.c_typing.proofs.ProgressCompleted.{Completes, init_made}
 
 no : {A : Type 0} → false ≡ true → A
 no e = absurd (true≢false (sym e))
@@ -93,10 +91,13 @@ module _ (tokens : List Token) (t : Tree) (derived : IsTreeOf tokens t) (quiet :
     where
       p : Places
       p = places t
+
       js : List Judgement
       js = judgements_at (places t)
+
       w : Node
       w = de.whole.node
+
       by : (suc e.behind ≡ length (nodes t)) ⊎ Linked (nodes t) e.behind de.whole.node → Declared e
       by (inl last) = no (sym (ap is_part (l.root e.behind w de.whole.at last)) ∙ ap is_part de.whole.is)
       by (inr q) =
@@ -138,7 +139,7 @@ module _ (tokens : List Token) (t : Tree) (derived : IsTreeOf tokens t) (quiet :
             cells = i.cells;
             means_whole = i.is;
             how = subst (λ (v : CType). ((has_kid o 1 ≡ false) × (i.type ≡ v)) ⊎ ((is_object e.entity ≡ true) × Completes p (take e.owner js) e v i.type)) type_equal
-            (subst (λ (x : Name). ((has_kid o 1 ≡ false) × (i.type ≡ im.type)) ⊎ ((is_object x.entity ≡ true) × Completes p (take e.owner js) x im.type i.type)) name_equal im.how);
+                (subst (λ (x : Name). ((has_kid o 1 ≡ false) × (i.type ≡ im.type)) ⊎ ((is_object x.entity ≡ true) × Completes p (take e.owner js) x im.type i.type)) name_equal im.how);
             given = ap (λ (x : Node). is_init (node_at p.nodes x.parent).label.kind && has_kid (node_at p.nodes x.parent) 1) de.declarator
-            ∙ (ap (λ (x : Node). is_init x.label.kind && has_kid x 1) (found_at (nodes t) w.parent o q.at) ∙ ap (λ k. is_init k && has_kid o 1) same);
+                ∙ (ap (λ (x : Node). is_init x.label.kind && has_kid x 1) (found_at (nodes t) w.parent o q.at) ∙ ap (λ k. is_init k && has_kid o 1) same);
           }

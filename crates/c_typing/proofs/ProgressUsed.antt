@@ -1,25 +1,15 @@
 -- What the unit of a tree is put together from is there: the types of objects, and what names in expressions name.
-use Rattle.std.proofs.Common.{◌≡◌, ℕ, zero, suc, Bool, true, false, not, ◌&&◌, List, [], ◌∷◌, length, Option, Some, None, refl, sym, ap, ◌∙◌, subst, true≢false, inl, inr}
-use Rattle.std.specs.Prelude.{slice_get, flat_map, if◌then◌else◌, ◌==◌}
-use Rattle.c_lexer.specs.declared.token.Token.{Token}
+use Rattle.std.proofs.Common.{◌≡◌, ℕ, zero, suc, Bool, true, false, not, List, [], ◌∷◌, Option, Some, None, refl, sym, subst, true≢false}
+use Rattle.std.specs.Prelude.{slice_get, flat_map}
 use Rattle.c_syntax.specs.declared.kind.SynKind.TheVariants as kind
-use Rattle.c_syntax.specs.Trees.{Tree}
-use Rattle.c_grammar.specs.Derivation.{IsTreeOf}
-use Rattle.c_typing.specs.Places.{Node, nodes, kind_at}
-use Rattle.c_typing.specs.Names.{Entity, Name, Places, places, denoted, is_typedef, typedef_name, is_static, earlier, is_defined_object, objects_of}
-use Rattle.c_typing.specs.Judgements.{Fault, Judgement, judgement_at, type_at, faults_in}
-use Rattle.std.specs.Option.{is_some}
-use Rattle.c_typing.specs.Types.{CType}
-use Rattle.c_typing.proofs.ProgressForms.{Has, has_type, has_its_type}
-use Rattle.c_typing.proofs.ProgressDeclared.{AllNames, Stands, all_names_stand, all_filter}
+use Rattle.c_typing.specs.Places.{Node}
+use Rattle.c_typing.specs.Names.{Entity, Name, Places, denoted, is_typedef, typedef_name}
+use Rattle.c_typing.specs.Judgements.{Fault, Judgement, faults_in}
+use Rattle.c_typing.proofs.ProgressDeclared.{AllNames}
 use Rattle.c_typing.specs.Expressions.{variable, variable_by}
 use Rattle.c_typing.specs.Rules.{broken_if}
-use Rattle.c_typing.specs.Typing.{judged_by, faults}
-use Rattle.c_typing.specs.ShapesOfNodes.{category_at}
-use Rattle.c_typing.specs.Meant.{judgements}
-use Rattle.c_typing.proofs.ProgressAll.{fronts_empty, no_fault, all_meant}
-use Rattle.c_typing.proofs.ProgressPlaces.{AreLinked, are_linked}
-use Rattle.c_typing.proofs.ProgressInitials.{specials}
+use Rattle.c_typing.specs.Typing.{judged_by}
+use Rattle.c_typing.proofs.ProgressAll.{fronts_empty}
 
 no : {A : Type 0} → false ≡ true → A
 no e = absurd (true≢false (sym e))

@@ -68,8 +68,8 @@ pub fn nodes()
 
 /// One typing: a tree that some token list derives is typed as exactly one unit, or breaks a rule at one of its nodes, or has a
 /// size above the limit at one; and where a tree is typed, neither of the others holds. Where no rule is broken and no size is
-/// above the limit, each node has a meaning, with the form of its category; each object has a type with a size; an automatic one stands in a
-/// function, and has its place there; and what a name in an expression names is no type, and is defined.
+/// above the limit, each node has a meaning, with the form of its category; each object has a type with a size; an automatic
+/// one stands in a function, and has its place there; and what a name in an expression names is no type, and is defined.
 pub fn progress()
     ensures one_typing { (tokens : List Token) (t : Tree) → IsTreeOf tokens t → HasOneUnit t ⊎ (IsBroken t ⊎ IsTooBig t) }
     ensures alone { (t : Tree) (u : Unit) → IsTyped t u → IsSound t }

@@ -38,7 +38,9 @@
 // each definition of what a node means, and `ProgressOn*` bring the kids to them. What is wanted beside the kids:
 // `ProgressOwners` and `ProgressBefore` (specs and enumerators before a node), `ProgressAround` (the function around),
 // `ProgressWhole` and `ProgressDeclared` (names and their types), `ProgressTargets`, `ProgressInitial` and `ProgressInitials`
-// (what strings and braces initialize). `proofs/Bounds*.antt`: all faults name rules from 1 to 27 and nodes of the tree.
+// (what strings and braces initialize). `ProgressBuilt`, `ProgressCompleted`, `ProgressSpecs` and `ProgressSizes` (the types of
+// declarators), for `ProgressSized`, `ProgressObjects`, `ProgressLocals` and `ProgressUses`: what the unit is put together from is
+// there. `proofs/Bounds*.antt`: all faults name rules from 1 to 27 and nodes of the tree.
 //
 // The proofs of the laws of shapes: `proofs/ShapesLaw.antt` is the induction on the derivation, with a case for each rule, over the
 // facts of `proofs/ShapesBase.antt`; `proofs/ShapesPlaces.antt` and `proofs/ShapesTable.antt` take it to the table;
