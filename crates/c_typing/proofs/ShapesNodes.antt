@@ -53,21 +53,21 @@ node_fits tokens t n m derived e =
 -- ---- the lowest node, and the parent
 
 -- the nodes are those of trees between others, and so are the categories
-record Between (all : List Node) (known : List Category) (first parent : ℕ) (f : Forest) : Type 0 where
-  before : List Node
-  after : List Node
-  are : all ≡ before ++ (nodes_of first parent f ++ after)
-  long : first ≡ length before
-  ahead : List Category
-  behind : List Category
-  known_are : known ≡ ahead ++ (listed f ++ behind)
-  known_long : first ≡ length ahead
+pub record Between (all : List Node) (known : List Category) (first parent : ℕ) (f : Forest) : Type 0 where
+  pub before : List Node
+  pub after : List Node
+  pub are : all ≡ before ++ (nodes_of first parent f ++ after)
+  pub long : first ≡ length before
+  pub ahead : List Category
+  pub behind : List Category
+  pub known_are : known ≡ ahead ++ (listed f ++ behind)
+  pub known_long : first ≡ length ahead
 
 at_seam : (xs : List Node) (y : Node) (ys : List Node) → slice_get (xs ++ y ∷ ys) (length xs) ≡ Some y
 at_seam [] y ys = refl
 at_seam (x ∷ xs) y ys = at_seam xs y ys
 
-length-nodes : (first parent : ℕ) (f : Forest) → length (nodes_of first parent f) ≡ size f
+pub length-nodes : (first parent : ℕ) (f : Forest) → length (nodes_of first parent f) ≡ size f
 length-nodes first parent none = refl
 length-nodes first parent (tree label kids rest) =
     let id = first + size kids in
@@ -82,7 +82,7 @@ module _ (all : List Node) (known : List Category) (first parent : ℕ) (label :
   id : ℕ
   id = first + size kids
 
-  own : Node
+  unfoldable pub own : Node
   own = record { id = first + size kids; label = label; kids = numbers (roots first kids); first = first; parent = parent }
 
   later : List Node
@@ -95,7 +95,7 @@ module _ (all : List Node) (known : List Category) (first parent : ℕ) (label :
   unfolding own later
   opened = b.are ∙ ap (λ ns. b.before ++ ns) (append_assoc (nodes_of first (first + size kids) kids) (own ∷ later) b.after)
 
-  kids_between : Between all known first (first + size kids) kids
+  pub kids_between : Between all known first (first + size kids) kids
   unfolding listed own_category
   kids_between = record {
     before = b.before;
@@ -118,10 +118,10 @@ module _ (all : List Node) (known : List Category) (first parent : ℕ) (label :
       let starts = b.long in
       omega (arith, long, longer, starts)
 
-  own_there : slice_get all (first + size kids) ≡ Some own
+  pub own_there : slice_get all (first + size kids) ≡ Some own
   own_there = ap₂ slice_get here at_own ∙ at_seam (b.before ++ nodes_of first (first + size kids) kids) own (later ++ b.after)
 
-  rest_between : Between all known (first + size kids + 1) parent rest
+  pub rest_between : Between all known (first + size kids + 1) parent rest
   unfolding later
   rest_between =
       let last = length-append (b.before ++ nodes_of first (first + size kids) kids) (own ∷ []) in
@@ -137,7 +137,7 @@ module _ (all : List Node) (known : List Category) (first parent : ℕ) (label :
         known_long = table.longer_front b.ahead b.behind label kids rest first b.known_long;
       }
 
-  own_known : get_or known (first + size kids) no_category ≡ category_by label.kind label.text (categories kids)
+  pub own_known : get_or known (first + size kids) no_category ≡ category_by label.kind label.text (categories kids)
   unfolding table.own
   own_known = ap (λ cs. get_or cs (first + size kids) no_category) b.known_are ∙ table.found b.ahead b.behind label kids rest first b.known_long
 
@@ -170,7 +170,7 @@ record Linked (all : List Node) (known : List Category) (place : ℕ) (m : Node)
   stands : stands_in (get_or known place no_category) parent.label.kind ≡ true
 
 -- it holds of all nodes, where the first stands at this place
-abbrev AllFrom : (ℕ → Node → Type 0) → ℕ → List Node → Type 0
+abbrev pub AllFrom : (ℕ → Node → Type 0) → ℕ → List Node → Type 0
 AllFrom P place [] = Unit {0}
 AllFrom P place (m ∷ ms) = P place m × AllFrom P (suc place) ms
 
@@ -178,7 +178,7 @@ all-append : (P : ℕ → Node → Type 0) (place : ℕ) (xs ys : List Node) →
 all-append P place [] ys h k = subst (λ n. AllFrom P n ys) (omega arith) k
 all-append P place (x ∷ xs) ys h k = (h.0, all-append P (suc place) xs ys h.1 (subst (λ n. AllFrom P n ys) (omega arith) k))
 
-all_at : (P : ℕ → Node → Type 0) (place : ℕ) (ms : List Node) (n : ℕ) (m : Node) → AllFrom P place ms → slice_get ms n ≡ Some m → P (place + n) m
+pub all_at : (P : ℕ → Node → Type 0) (place : ℕ) (ms : List Node) (n : ℕ) (m : Node) → AllFrom P place ms → slice_get ms n ≡ Some m → P (place + n) m
 all_at P place [] n m h e = absurd (cc e)
 all_at P place (x ∷ ms) zero m h e = same e
   where
@@ -187,7 +187,7 @@ all_at P place (x ∷ ms) zero m h e = same e
 all_at P place (x ∷ ms) (suc n) m h e = subst (λ j. P j m) (omega arith) (all_at P (suc place) ms n m h.1 e)
 
 -- of a tree, from those of its kids, its root and those behind
-all_of_tree : (P : ℕ → Node → Type 0) (first parent : ℕ) (label : Label) (kids rest : Forest) → AllFrom P first (nodes_of first (first + size kids) kids)
+pub all_of_tree : (P : ℕ → Node → Type 0) (first parent : ℕ) (label : Label) (kids rest : Forest) → AllFrom P first (nodes_of first (first + size kids) kids)
     → P (first + size kids) (record { id = first + size kids; label = label; kids = numbers (roots first kids); first = first; parent = parent })
     → AllFrom P (first + size kids + 1) (nodes_of (first + size kids + 1) parent rest) → AllFrom P first (nodes_of first parent (tree label kids rest))
 all_of_tree P first parent label kids rest below root later =
@@ -259,7 +259,7 @@ module _ (tokens : List Token) (t : Tree) (derived : IsTreeOf tokens t) where
   ok_here : are_shaped (one t) ≡ true
   ok_here = all_shaped tokens t derived
 
-  whole : Between (nodes t) (categories_of (table_of t)) 0 (size (one t)) (one t)
+  pub whole : Between (nodes t) (categories_of (table_of t)) 0 (size (one t)) (one t)
   whole = record {
     before = [];
     after = [];

@@ -12,7 +12,7 @@ use Rattle.c_types.specs.Sizes.{struct_measure}
 use Rattle.c_typing.specs.Types.{bool, char, schar, uchar, short, ushort, int, uint, long, ulong, CType, void, integer, pointer, array, unsized, struct, function, types_of, Field, Layout, measure, no_measure, size_of, is_unsized}
 use Rattle.c_typing.specs.Places.{Node, node_at, kind_at, text_at, parent_of, kid, has_kid, other_kids, index_in, is_word, is_whole, is_next_to_name, whole_declarator, own_takes, specs_of, is_init, is_param}
 use Rattle.c_typing.specs.Names.{Places, Name, Entity, typedef_name, function_name, static_object, automatic, parameter, enumerator, is_typedef, denoted, name_of, Tag, tag_of, earlier}
-use Rattle.c_typing.specs.Judgements.{Constant, number, Typing, Step, to_pointer, of_array, of_unsized, of_parameter, of_function, PlacedStep, Fault, itself, a_type, a_struct, members, enumerates, steps, declares, Judgement, means, waits, verdict, given, all_of, judgement_at, typing_at, type_at, steps_at, layouts, besides}
+use Rattle.c_typing.specs.Judgements.{Constant, number, Typing, Step, to_pointer, of_array, of_unsized, of_parameter, of_function, PlacedStep, Fault, itself, a_type, a_struct, members, enumerates, steps, declares, Judgement, means, verdict, given, all_of, judgement_at, typing_at, type_at, steps_at, layouts, besides}
 use Rattle.c_typing.specs.Expressions.{type_of_name, word_of_enumerator}
 use Rattle.c_typing.specs.Rules.{bad_type_words, SpecsPlace, in_unit, of_definition, in_block, in_for, of_parameter, of_member_or_type_name, bad_storage_class, declared_twice, stands_twice, unknown_name, incomplete_type, absent_length, bad_array_length, not_constant, out_of_range, no_int, broken_if, local_array_or_struct, not_a_function, many_parameters, bad_parameter, bad_result, bad_main, bad_library_name, size_fault}
 
@@ -58,13 +58,15 @@ said_type [] (t ∷ []) = Some t
 said_type words types = None
 
 -- a word among specs; one that is no keyword is a typedef name (6.7.7)
-unfoldable pub typedef_type : List Judgement → Name → Judgement
-typedef_type js e = if is_typedef e.entity then given (type_of_name js e) (λ t. means (a_type t)) else waits
+unfoldable pub typedef_type : List Judgement → Node → Option Name → Judgement
+typedef_type js node None = verdict (bad_type_words None node.id) itself
+typedef_type js node (Some e) =
+    if is_typedef e.entity then given (type_of_name js e) (λ t. means (a_type t)) else verdict (bad_type_words None node.id) itself
 
 unfoldable pub spec_word : Places → List Judgement → Node → Judgement
 spec_word p js node =
     if is_storage_word node.label.text || is_type_word node.label.text then means itself
-    else given (denoted p.names node.id node.label.text) (typedef_type js)
+    else typedef_type js node (denoted p.names node.id node.label.text)
 
 abbrev pub spec_meaning : Judgement → Option (List CType)
 spec_meaning (means itself) = Some []

@@ -10,7 +10,7 @@ use Rattle.c_types.specs.declared.tree.COp.{COp}
 use Rattle.c_types.specs.declared.tree.COp.TheVariants as op
 use Rattle.c_types.specs.declared.tree.Expr.{Expr}
 use Rattle.c_types.specs.Forms.{const, address, local, set_local, load, store, binary, both, either, choose, seq, call, get_char, put_char, copy, expr_row, length_of}
-use Rattle.c_typing.specs.Types.{IntegerType, char, int, uint, long, ulong, CType, void, integer, pointer, array, struct, function, promoted, common, is_integer, is_array, is_scalar, integer_of, target_of, listed, Field, Layout, layout_of, has_size, size_of, align_of}
+use Rattle.c_typing.specs.Types.{IntegerType, char, int, uint, long, ulong, CType, void, integer, pointer, array, struct, function, promoted, common, is_integer, is_array, is_function, is_scalar, integer_of, target_of, listed, Field, Layout, layout_of, has_size, size_of, align_of}
 use Rattle.c_typing.specs.Places.{Node, kid, other_kids, is_string, parent_of}
 use Rattle.c_typing.specs.Names.{Places, Name, Entity, typedef_name, function_name, static_object, enumerator, object_number, objects_of, function_number, function_around, named_locals, local_number}
 use Rattle.c_typing.specs.Judgements.{Callee, reads_input, writes_output, calls, Form, in_local, in_memory, temporary, callee, Constant, no_constant, number, place_at, Typing, Fault, Meaning, enumerates, expresses, fills_array, Judgement, means, waits, verdict, given, judgement_at, type_at, layouts, hidden_in, meaning_of, besides, all_of, typing_at}
@@ -87,10 +87,10 @@ word_of_enumerator (means (enumerates w)) = Some w
 word_of_enumerator j = None
 
 unfoldable pub variable_by : Places → List Judgement → Node → Name → Entity → Judgement
-variable_by p js node e typedef_name = waits
+variable_by p js node e typedef_name = verdict (unknown_name false node.id) (expression (number_of_type int 0))
 variable_by p js node e enumerator = given (word_of_enumerator (judgement_at js e.node)) λ w. means (expression (number_of_type int w))
 variable_by p js node e function_name = given (type_of_name js e) λ t.
-    verdict (function_as_value (is_called p (length p.nodes) node.id) node.id)
+    verdict (function_as_value (is_called p (length p.nodes) node.id) node.id ++ not_a_function (is_function t) node.id)
     (expression (record { type = t; form = callee (callee_of p e.text); code = const 0; constant = no_constant }))
 variable_by p js node e static_object = given (type_of_name js e) λ t.
     means (expression (object_typing t (object_number p e)))

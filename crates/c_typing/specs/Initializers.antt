@@ -177,12 +177,13 @@ braces_for p js node t =
     given (all_of (map (kid_part p js (is_static_name (init_around p node)) t node) (range_with_len 0 (length node.kids)))) λ parts.
     verdict (flat_map (λ (q : Part). q.faults) parts) (initial (count_in p t node) (flat_map (λ (q : Part). q.cells) parts)))
 
--- those of a typedef or a function initialize nothing
-abbrev pub initializes_nothing : Places → Node → Bool
-initializes_nothing p node = not (is_some (init_around p node))
+-- those of a typedef or a function, and those behind the last part, initialize nothing
+abbrev pub braces_by : Places → List Judgement → Node → Option CType → Judgement
+braces_by p js node None = means (initial 0 [])
+braces_by p js node (Some t) = braces_for p js node t
 
 unfoldable pub braces : Places → List Judgement → Node → Judgement
-braces p js node = if initializes_nothing p node then means (initial 0 []) else given (target p js node.id) (braces_for p js node)
+braces p js node = braces_by p js node (target p js node.id)
 
 -- ---- declarators with their initializers
 

@@ -15,7 +15,7 @@ use Rattle.c_typing.specs.Conversions.{is_assignable}
 abbrev pub broken_if : Bool → ℕ → ℕ → List Fault
 broken_if holds r n = if holds then rule r n ∷ [] else []
 
--- rule 1, `bad type words`: the specs name no type (6.7.2, 2)
+-- rule 1, `bad type words`: the specs name no type, or a word among them is no typedef name (6.7.2, 2)
 abbrev pub bad_type_words : Option CType → ℕ → List Fault
 bad_type_words type specs = broken_if (not (is_some type)) 1 specs
 
@@ -80,7 +80,7 @@ declared_twice p e type before n = broken_if (is_refused p e type before (last_o
 abbrev pub stands_twice : Bool → ℕ → List Fault
 stands_twice twice n = broken_if twice 3 n
 
--- rule 4, `unknown name`: a name, or the tag of an enum, that is not in scope (6.5.1, 2; 6.7.2.3, 2)
+-- rule 4, `unknown name`: a name, or the tag of an enum, that is not in scope, or a name of a type where a value is wanted (6.5.1, 2; 6.7.2.3, 2)
 abbrev pub unknown_name : Bool → ℕ → List Fault
 unknown_name known n = broken_if (not known) 4 n
 

@@ -1,5 +1,5 @@
 // What holds of all derived trees.
-ghost use Rattle.std.specs.Prelude.{◌≡◌, ℕ, ◌<◌, true, List, length, slice_get, Some};
+ghost use Rattle.std.specs.Prelude.{◌≡◌, ◌⊎◌, ℕ, ◌<◌, true, List, [], length, slice_get, Some};
 ghost use Rattle.std.specs.List.{list_all};
 ghost use Rattle.c_lexer.specs.declared.token.Token.{Token};
 ghost use Rattle.c_syntax.specs.declared.kind.SynKind.{SynKind};
@@ -10,6 +10,11 @@ ghost use Rattle.c_syntax.specs.Trees.{Tree, one};
 ghost use Rattle.c_grammar.specs.Derivation.{IsTreeOf};
 ghost use Rattle.c_typing.specs.Places.{Node, nodes};
 ghost use Rattle.c_typing.specs.ShapesOfNodes.{IsPlaced, HasParent};
+ghost use Rattle.c_types.specs.declared.tree.Unit.{Unit};
+ghost use Rattle.c_typing.specs.Typing.{faults, IsTyped};
+ghost use Rattle.c_typing.specs.Meant.{IsMeant, IsSound, IsSized, IsUsed, IsLocal, HasOneUnit, IsBroken, IsTooBig};
+ghost use Rattle.c_typing.specs.Names.{Name, places, objects_of, is_automatic};
+ghost use Rattle.c_syntax.specs.declared.kind.SynKind.TheVariants as kind;
 ghost use Rattle.c_typing.specs.Shapes.{Category, unit, category_of, categories_of, kids_fit, stands_in, are_shaped, IsShapedAt, Fits, lowest_kind, begins_with, IsReadByNames};
 
 /// In a tree that some token list derives each node has its shape, and the root is a unit. So the node at each place of
@@ -59,4 +64,34 @@ pub fn nodes()
         → slice_get (nodes t) n ≡ Some m
         → n < size t.kids
         → HasParent t n m }
+{}
+
+/// One typing: a tree that some token list derives is typed as exactly one unit, or breaks a rule at one of its nodes, or has a
+/// size above the limit at one; and where a tree is typed, neither of the others holds. Where no rule is broken and no size is
+/// above the limit, each node has a meaning, with the form of its category; each object has a type with a size; an automatic
+/// one stands in a function, and has its place there; and what a name in an expression names is no type, and is defined.
+pub fn progress()
+    ensures one_typing { (tokens : List Token) (t : Tree) → IsTreeOf tokens t → HasOneUnit t ⊎ (IsBroken t ⊎ IsTooBig t) }
+    ensures alone { (t : Tree) (u : Unit) → IsTyped t u → IsSound t }
+    ensures meant { (tokens : List Token) (t : Tree) (n : ℕ) (m : Node)
+        → IsTreeOf tokens t
+        → faults t ≡ []
+        → slice_get (nodes t) n ≡ Some m
+        → IsMeant t n m }
+    ensures objects { (tokens : List Token) (t : Tree) (k : ℕ) (e : Name)
+        → IsTreeOf tokens t
+        → faults t ≡ []
+        → slice_get (objects_of (places t)) k ≡ Some e
+        → IsSized t e }
+    ensures locals { (tokens : List Token) (t : Tree) (k : ℕ) (e : Name)
+        → IsTreeOf tokens t
+        → slice_get (places t).names k ≡ Some e
+        → is_automatic e.entity ≡ true
+        → IsLocal t e }
+    ensures uses { (tokens : List Token) (t : Tree) (n : ℕ) (m : Node)
+        → IsTreeOf tokens t
+        → faults t ≡ []
+        → slice_get (nodes t) n ≡ Some m
+        → m.label.kind ≡ kind.Var
+        → IsUsed t m }
 {}

@@ -21,8 +21,10 @@
 //
 // The invariant: a node that breaks a rule has no meaning, and a node that needs the meaning of a part waits where that has none.
 //
-// The theorem, on `shapes`: in a tree that some token list derives, each node has its shape, and so has the node at each
-// place of its table. On `parents`: which nodes a node may be a kid of. On `names`: the lowest node of a declarator is its
+// The theorem, on `progress`: a tree that some token list derives is typed as exactly one unit, or breaks a rule at one of its
+// nodes, or has a size above the limit at one; where no rule is broken and no size is too big, each node has a meaning, with
+// the form of its category (`specs/Meant.antt`). On `shapes`: in a tree that some token list derives, each node has its shape,
+// and so has the node at each place of its table. On `parents`: which nodes a node may be a kid of. On `names`: the lowest node of a declarator is its
 // name, or the place of the absent name, and that of no other tree is one, but that an `InitDecl` begins with its
 // declarator. On `identifiers`: in a derived tree a word among specifiers is a keyword or a typedef name, and a name in an
 // expression is no typedef name. On `nodes`: of the nodes by their places, each has its shape, its lowest node and its parent.
@@ -31,7 +33,16 @@
 // do not, the typed form of each conversion and operator, and whole units. `proofs/Texts.antt` reads the texts. docs/TYPING.md has
 // the rules as a user meets them.
 //
-// The proofs of the laws: `proofs/ShapesLaw.antt` is the induction on the derivation, with a case for each rule, over the
+// The proof of progress: `proofs/ProgressAll.antt` is the induction on the numbers of nodes, over `proofs/ProgressKind.antt`, a
+// line for each kind. `ProgressExpressions`, `ProgressStatements`, `ProgressDeclarators` and `ProgressNames` have a lemma for
+// each definition of what a node means, and `ProgressOn*` bring the kids to them. What is wanted beside the kids:
+// `ProgressOwners` and `ProgressBefore` (specs and enumerators before a node), `ProgressAround` (the function around),
+// `ProgressWhole` and `ProgressDeclared` (names and their types), `ProgressTargets`, `ProgressInitial` and `ProgressInitials`
+// (what strings and braces initialize). `ProgressBuilt`, `ProgressCompleted`, `ProgressSpecs` and `ProgressSizes` (the types of
+// declarators), for `ProgressSized`, `ProgressObjects`, `ProgressLocals` and `ProgressUses`: what the unit is put together from is
+// there. `proofs/Bounds*.antt`: all faults name rules from 1 to 27 and nodes of the tree.
+//
+// The proofs of the laws of shapes: `proofs/ShapesLaw.antt` is the induction on the derivation, with a case for each rule, over the
 // facts of `proofs/ShapesBase.antt`; `proofs/ShapesPlaces.antt` and `proofs/ShapesTable.antt` take it to the table;
 // `proofs/ShapesRows.antt` has shapes that hold and shapes that do not.
 //
@@ -40,4 +51,4 @@
 
 mod laws;
 
-pub use laws::{identifiers, names, nodes, parents, shapes};
+pub use laws::{identifiers, names, nodes, parents, progress, shapes};
