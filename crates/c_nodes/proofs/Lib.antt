@@ -1,0 +1,4 @@
+pub mod SpanLaws
+pub mod ParentLaws
+pub mod ReadLaws
+pub mod DeclaratorLaws
