@@ -1,13 +1,13 @@
 -- The last, and the first, of the nodes that begin with another one.
-use Rattle.std.proofs.Common.{◌≡◌, ◌≢◌, ◌⊎◌, inl, inr, ℕ, zero, suc, ◌+◌, ◌-◌, ◌<◌, ◌≤◌, true, false, Bool, ◌&&◌, List, [], ◌∷◌, length, drop, get_or, replicate, refl, sym, ap, ap₂, ◌∙◌, subst, arith, Option, Some, None, true≢false}
-use Rattle.std.specs.Prelude.{slice_set, filter, find, if◌then◌else◌, ◌==◌, nat_eq}
+use Rattle.std.proofs.Common.{◌≡◌, ◌≢◌, ◌⊎◌, inl, inr, ℕ, suc, ◌+◌, ◌<◌, ◌≤◌, true, false, Bool, ◌&&◌, List, [], ◌∷◌, length, drop, get_or, replicate, refl, sym, ap, ◌∙◌, subst, Option, Some, None, true≢false}
+use Rattle.std.specs.Prelude.{slice_set, slice_get, unwrap_or, filter, find, if◌then◌else◌, ◌==◌, nat_eq}
+use Rattle.std.proofs.lemmas.Option.{slice_get_within}
 use Rattle.std.specs.List.{last_or}
 use Rattle.std.proofs.lemmas.List.{get_or-replicate, get_or-set_same, get_or-set_other, drop_all}
 use Rattle.std.proofs.lemmas.Bool.Decides.{eqb_tells}
-use Rattle.std.proofs.lemmas.Grind.{common_steps}
-use Rattle.c_syntax.specs.declared.kind.SynKind.{SynKind}
-use Rattle.c_typing.specs.Places.{Node, in_declarator, is_declarator, is_step, next_to_name}
-use Rattle.c_nodes.specs.Declarators.{number_or, whole_number, next_number}
+use Rattle.c_typing.specs.Places.{Node, in_declarator, is_declarator, is_step, next_to_name, node_at, nowhere}
+use Rattle.c_nodes.specs.Parents.{AreNumbered}
+use Rattle.c_nodes.specs.Declarators.{number_or, Points, whole_of, whole_number, next_number}
 
 -- ---- the last one
 
@@ -111,3 +111,54 @@ module _ (s : List Node) (n : ℕ) (m : Node) (rest : List Node) (cut : drop n s
 
 pub next_end : (s : List Node) (found : List ℕ) (i : ℕ) → NextFrom s 0 found i → get_or found i 0 ≡ next_number s i
 next_end s found i h = h
+
+-- ---- nodes by their numbers
+
+abbrev pub IsAt : List Node → Node → Type 0
+IsAt s m = (k : ℕ) × (slice_get s k ≡ Some m)
+
+pub found_at : (test : Node → Bool) (s : List Node) (m : Node) → find test s ≡ Some m → IsAt s m
+found_at test [] m e = absurd (cc e)
+found_at test (x ∷ xs) m e = by (λ h. found_at test xs m h) (test x) e
+  where
+    by : (find test xs ≡ Some m → IsAt xs m) → (b : Bool) → (if b then Some x else find test xs) ≡ Some m → IsAt (x ∷ xs) m
+    by behind true h = (0, h)
+    by behind false h = let (k, at) = behind h in (suc k, at)
+
+last_at : (test : Node → Bool) (best : Option Node) (s : List Node) (m : Node) → last_or best (filter test s) ≡ Some m → (best ≡ Some m) ⊎ IsAt s m
+last_at test best [] m e = inl e
+last_at test best (x ∷ xs) m e = by (λ o h. last_at test o xs m h) (test x) e
+  where
+    later : {o : Option Node} → (o ≡ Some m → (best ≡ Some m) ⊎ IsAt (x ∷ xs) m) → (o ≡ Some m) ⊎ IsAt xs m → (best ≡ Some m) ⊎ IsAt (x ∷ xs) m
+    later same (inl h) = same h
+    later same (inr (k, at)) = inr (suc k, at)
+
+    by : ((o : Option Node) → last_or o (filter test xs) ≡ Some m → (o ≡ Some m) ⊎ IsAt xs m) → (b : Bool) → last_or best (if b then x ∷ filter test xs else filter test xs) ≡ Some m
+        → (best ≡ Some m) ⊎ IsAt (x ∷ xs) m
+    by behind true h = later (λ same. inr (0, same)) (behind (Some x) h)
+    by behind false h = later (λ same. inl same) (behind best h)
+
+pub points_at : (s : List Node) → AreNumbered s → (m : Node) → IsAt s m → Points s m.id (Some m)
+points_at s numbered m (k, at) =
+    let here : node_at s k ≡ m = ap (λ o. unwrap_or o nowhere) at in
+    let within : k < length s = slice_get_within s k m at in
+    let same : m.id ≡ k = sym (ap (λ (x : Node). x.id) here) ∙ numbered k within in
+    (subst (λ n. n < length s) (sym same) within, ap (node_at s) same ∙ here)
+
+pub points_next : (s : List Node) → AreNumbered s → (i : ℕ) → Points s (next_number s i) (next_to_name s i)
+points_next s numbered i = by (next_to_name s i) refl
+  where
+    by : (o : Option Node) → next_to_name s i ≡ o → Points s (number_or (length s) o) o
+    by None e = refl
+    by (Some m) e = points_at s numbered m (found_at (λ (node : Node). (node.first == i) && is_step node.label.kind) s m e)
+
+pub points_whole : (s : List Node) → AreNumbered s → (i : ℕ) → Points s (whole_number s i) (whole_of s i)
+points_whole s numbered i = by (whole_of s i) refl
+  where
+    by : (o : Option Node) → whole_of s i ≡ o → Points s (number_or (length s) o) o
+    by None e = refl
+    by (Some m) e = there (last_at (in_declarator i) None s m e)
+      where
+        there : (None ≡ Some m) ⊎ IsAt s m → Points s m.id (Some m)
+        there (inl h) = absurd (cc h)
+        there (inr h) = points_at s numbered m h

@@ -151,11 +151,12 @@ module _ (t : Tree) (all : List Node) where
           omega (arith, at, last, parts, many)
 
       root : IsLowest t all id
-      root =
-          (record { label = label; kids = kids },
-          stand_within (table_of t) before first (tree label kids none) (behind ++ after)
-          (opened ∙ ap (λ ns. before ++ ns) (sym (append_assoc (tables.nodes first kids) (mine ∷ []) (behind ++ after)))) at,
-          ap (λ (m : Node). m.first + (size kids + 1 + 0)) (own_there all first parent label kids rest b) ∙ omega arith)
+      root = (
+        record { label = label; kids = kids },
+        stand_within (table_of t) before first (tree label kids none) (behind ++ after)
+            (opened ∙ ap (λ ns. before ++ ns) (sym (append_assoc (tables.nodes first kids) (mine ∷ []) (behind ++ after)))) at,
+        ap (λ (m : Node). m.first + (size kids + 1 + 0)) (own_there all first parent label kids rest b) ∙ omega arith,
+      )
 
 pub is_lowest : (t : Tree) (n : ℕ) → n < length (table_of t) → IsLowest t (nodes t) n
 is_lowest t n within =

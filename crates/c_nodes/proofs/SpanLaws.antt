@@ -5,7 +5,7 @@ use Rattle.std.specs.Prelude.{slice_set, nat_le, nat_lt, if◌then◌else◌}
 use Rattle.std.specs.List.{range_with_len}
 use Rattle.std.proofs.lemmas.Grind.{common_steps}
 use Rattle.c_nodes.specs.declared.spans.Span.{Span}
-use Rattle.c_nodes.specs.Spans.{IsSpanWithin, AreWithin, stands_in, found_in, painted_from, painted}
+use Rattle.c_nodes.specs.Spans.{IsSpanWithin, AreWithin, found_in, painted_from, painted}
 
 -- nothing is painted where the bound is not behind the start
 pub painted_none : (i from bound number : ℕ) (xs : List ℕ) → bound ≤ from → painted_from i from bound number xs ≡ xs
@@ -138,3 +138,22 @@ within_at count (span ∷ spans) (suc i) d all within = within_at count spans i 
 pub length-painted : (i from bound number : ℕ) (xs : List ℕ) → length (painted_from i from bound number xs) ≡ length xs
 length-painted i from bound number [] = refl
 length-painted i from bound number (x ∷ xs) = ap suc (length-painted (i + 1) from bound number xs)
+
+-- what stands at a place
+pub painted_at : (from to number : ℕ) (xs : List ℕ) (i : ℕ)
+    → get_or (painted from to number xs) i 0 ≡ (if nat_le from i && (nat_le i to && nat_lt i (length xs)) then number else get_or xs i 0)
+painted_at from to number xs i = by 0 xs i ∙ ap (λ k. if nat_le from k && (nat_le k to && nat_lt i (length xs)) then number else get_or xs i 0) {x = 0 + i} (omega arith)
+  where
+    same : (p : Bool) (k to : ℕ) (x : ℕ) → (if p && nat_lt k (to + 1) then number else x) ≡ (if p && (nat_le k to && true) then number else x)
+    same p k to x = grind (arith, common_steps)
+
+    by : (a : ℕ) (xs : List ℕ) (i : ℕ) → get_or (painted_from a from (to + 1) number xs) i 0
+        ≡ (if nat_le from (a + i) && (nat_le (a + i) to && nat_lt i (length xs)) then number else get_or xs i 0)
+    by a [] i = none (nat_le from (a + i)) (nat_le (a + i) to)
+      where
+        none : (p q : Bool) → 0 ≡ (if p && (q && nat_lt i 0) then number else 0)
+        none p q = grind (arith, common_steps)
+    by a (x ∷ xs) zero = grind (arith, common_steps)
+    by a (x ∷ xs) (suc i) =
+        by (a + 1) xs i
+        ∙ ap₂ (λ k b. if nat_le from k && (nat_le k to && b) then number else get_or xs i 0) {u = nat_lt i (length xs)} {v = nat_lt (suc i) (suc (length xs))} (omega arith) (grind (arith, common_steps))

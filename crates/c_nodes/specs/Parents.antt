@@ -1,12 +1,12 @@
 -- The parents of the nodes of a table, and the tree that it stands for.
-use Rattle.std.specs.Prelude.{◌≡◌, ℕ, zero, suc, ◌+◌, ◌<◌, List, [], ◌∷◌, ◌++◌, slice_set, unwrap_or}
+use Rattle.std.specs.Prelude.{◌≡◌, ℕ, suc, ◌+◌, ◌<◌, List, [], ◌∷◌, ◌++◌, length, slice_set, unwrap_or}
 use Rattle.std.specs.List.{AllByRecursion}
 use Rattle.c_syntax.specs.declared.kind.SynKind.TheVariants as kind
 use Rattle.c_syntax.specs.declared.syntax.SynId.{SynId}
 use Rattle.c_syntax.specs.declared.syntax.SynNode.{SynNode}
 use Rattle.c_syntax.specs.Trees.{Tree, Forest, none, tree, one, plain_node}
 use Rattle.c_syntax.specs.Tables.{size, table_of, tree_of}
-use Rattle.c_typing.specs.Places.{Node, nodes}
+use Rattle.c_typing.specs.Places.{Node, nodes, node_at}
 use Rattle.c_nodes.specs.declared.nodes.Parent.{Parent}
 
 -- the tree that a table stands for; of a table that stands for none, a node alone
@@ -15,6 +15,10 @@ tree_in table = unwrap_or (tree_of table) (plain_node kind.Empty 0 none)
 
 unfoldable pub nodes_in : List SynNode → List Node
 nodes_in table = nodes (tree_in table)
+
+-- each node has its place as its number
+abbrev pub AreNumbered : List Node → Type 0
+AreNumbered s = (n : ℕ) → n < length s → (node_at s n).id ≡ n
 
 -- of a kid of this node, which has this index
 abbrev pub kid_of : ℕ → ℕ → Parent

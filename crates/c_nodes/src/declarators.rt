@@ -1,8 +1,7 @@
 // The declarators of names: all nodes of one begin with its name, or with the place of an absent one.
-ghost use Rattle.std.specs.Prelude.{◌≡◌, ◌<◌, ℕ, IfOk, length, get_or, replicate};
+ghost use Rattle.std.specs.Prelude.{◌≡◌, IfOk, length, replicate};
 ghost use Rattle.c_typing.specs.Places as places;
-ghost use Rattle.c_nodes.specs.Parents.{nodes_in};
-ghost use Rattle.c_nodes.specs.Declarators.{next_number, whole_number};
+ghost use Rattle.c_nodes.specs.Declarators.{AreNext, AreWholes};
 
 use crate::nodes::Nodes;
 use c_syntax::SynKind;
@@ -27,7 +26,7 @@ pub fn is_step(kind: SynKind) -> bool
 
 /// For each node, the whole declarator that begins with it; where there is none, the number of nodes.
 pub fn whole_declarators(alloc: Global, nodes: &Nodes) -> Result<Vec<usize>, AllocError>
-    ensures { IfOk result (λ found. (i : ℕ) → i < length nodes.now → get_or found.items i 0 ≡ whole_number (nodes_in nodes.now) i) }
+    ensures { IfOk result (λ found. AreWholes nodes.now found.items) }
 {
     let mut found = Vec::new(alloc);
     found.resize(nodes.len(), nodes.len())?;
@@ -37,7 +36,7 @@ pub fn whole_declarators(alloc: Global, nodes: &Nodes) -> Result<Vec<usize>, All
 
 fn put_wholes(found: &mut [usize], nodes: &Nodes)
     requires { found.old ≡ replicate (length nodes.now) (length nodes.now) }
-    ensures { (i : ℕ) → i < length nodes.now → get_or found.new i 0 ≡ whole_number (nodes_in nodes.now) i }
+    ensures { AreWholes nodes.now found.new }
 {
     for number in 0..nodes.len() {
         if is_declarator(nodes.node(number).kind) {
@@ -49,7 +48,7 @@ fn put_wholes(found: &mut [usize], nodes: &Nodes)
 /// For each node, the part that stands next to it in the declarator that begins with it, parentheses aside; where there
 /// is none, the number of nodes.
 pub fn next_parts(alloc: Global, nodes: &Nodes) -> Result<Vec<usize>, AllocError>
-    ensures { IfOk result (λ found. (i : ℕ) → i < length nodes.now → get_or found.items i 0 ≡ next_number (nodes_in nodes.now) i) }
+    ensures { IfOk result (λ found. AreNext nodes.now found.items) }
 {
     let mut found = Vec::new(alloc);
     found.resize(nodes.len(), nodes.len())?;
@@ -59,7 +58,7 @@ pub fn next_parts(alloc: Global, nodes: &Nodes) -> Result<Vec<usize>, AllocError
 
 fn put_nexts(found: &mut [usize], nodes: &Nodes)
     requires { found.old ≡ replicate (length nodes.now) (length nodes.now) }
-    ensures { (i : ℕ) → i < length nodes.now → get_or found.new i 0 ≡ next_number (nodes_in nodes.now) i }
+    ensures { AreNext nodes.now found.new }
 {
     let mut number = nodes.len();
     while number > 0 {

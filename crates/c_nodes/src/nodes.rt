@@ -1,13 +1,12 @@
 // The nodes of a tree, each with its parent, its index among the kids of it, and its first node.
 ghost use Rattle.std.specs.Prelude.{◌≡◌, ◌+◌, ◌<◌, ◌≤◌, ◌∷◌, IfOk, drop, length, replicate};
-
 ghost use Rattle.c_syntax.specs.Trees.{Tree};
 ghost use Rattle.c_syntax.specs.Tables.{IsInOrder, table_of};
-ghost use Rattle.c_typing.specs.Places.{has_kid, index_in, kid, node_at, numbers, parent_of};
+ghost use Rattle.c_typing.specs.Places.{has_kid, index_in, kid, kind_at, node_at, numbers, parent_of};
 ghost use Rattle.c_typing.specs.ShapesOfNodes.{in_table};
-ghost use Rattle.c_nodes.specs.Parents.{IsWithin, adopted, all_adopted, kid_of, nodes_in};
+ghost use Rattle.c_nodes.specs.Parents.{AreNumbered, IsWithin, adopted, all_adopted, kid_of, nodes_in};
 
-use c_syntax::{SynId, SynNode, Syntax};
+use c_syntax::{SynId, SynKind, SynNode, Syntax};
 use std::alloc::{AllocError, Global};
 use std::marker::Model;
 
@@ -52,6 +51,7 @@ impl<'a> Nodes<'a> {
     pub fn len(&self) -> usize
         ensures is { result ≡ length self.now }
         ensures nodes { length (nodes_in self.now) ≡ length self.now }
+        ensures numbered { AreNumbered (nodes_in self.now) }
     {
         self.parents.len()
     }
@@ -64,6 +64,17 @@ impl<'a> Nodes<'a> {
         ensures later { drop number (nodes_in self.now) ≡ node_at (nodes_in self.now) number ∷ drop (number + 1) (nodes_in self.now) }
     {
         self.syntax.node(SynId { number })
+    }
+
+    /// The kind of the node of this number; where there is none, `Empty`.
+    pub fn kind_at(&self, number: usize) -> SynKind
+        ensures { result ≡ kind_at (nodes_in self.now) number }
+    {
+        if number < self.len() {
+            self.node(number).kind
+        } else {
+            SynKind::Empty
+        }
     }
 
     /// The kids of a node, which stand before it.

@@ -1,5 +1,5 @@
 // Which of some spans of nodes each node stands in.
-ghost use Rattle.std.specs.Prelude.{◌≡◌, ◌<◌, IfOk, length, map, replicate};
+ghost use Rattle.std.specs.Prelude.{◌≡◌, ◌<◌, ◌&&◌, ℕ, IfOk, get_or, if◌then◌else◌, length, map, nat_le, nat_lt, replicate};
 ghost use Rattle.std.specs.List.{range_with_len};
 ghost use Rattle.c_nodes.specs.Spans.{AreWithin, IsSpanWithin, found_in, painted};
 
@@ -8,6 +8,8 @@ use std::alloc::{AllocError, Global};
 /// The nodes from one up to another, and those from a third up to a fourth; `from` behind `to` means none.
 #[derive(Clone, Copy, Debug, PartialEq, Eq)]
 pub struct Span {
+    /// The node that it belongs to.
+    pub node: usize,
     pub from: usize,
     pub to: usize,
     pub more_from: usize,
@@ -16,11 +18,7 @@ pub struct Span {
 
 /// For each of so many nodes, the index of the first of the spans that it stands in; where there is none, how many spans
 /// there are.
-pub fn innermost(
-    alloc: Global,
-    spans: &[Span],
-    count: usize,
-) -> Result<Vec<usize>, AllocError>
+pub fn innermost(alloc: Global, spans: &[Span], count: usize) -> Result<Vec<usize>, AllocError>
     requires { AreWithin count spans.now }
     ensures { IfOk result (λ found. found.items ≡ map (found_in spans.now) (range_with_len 0 count)) }
 {
@@ -46,9 +44,11 @@ fn paint_all(found: &mut [usize], spans: &[Span])
 }
 
 // Writes a number at the places from one up to another.
-fn paint(found: &mut [usize], from: usize, to: usize, number: usize)
+pub(crate) fn paint(found: &mut [usize], from: usize, to: usize, number: usize)
     requires { IsSpanWithin (length found.old) from to }
-    ensures { found.new ≡ painted from to number found.old }
+    ensures is { found.new ≡ painted from to number found.old }
+    ensures places { (i : ℕ) → get_or found.new i 0 ≡ (if nat_le from i && (nat_le i to && nat_lt i (length found.old)) then number else get_or found.old i 0) }
+    ensures long { length found.new ≡ length found.old }
 {
     for place in from..to + 1 {
         found[place] = number;

@@ -1,5 +1,4 @@
-use Rattle.std.proofs.Common.{◌∙◌, ap, sym, arith, subst, length, get_or}
-use Rattle.c_syntax.specs.declared.kind.SynKind.TheVariants as kind
+use Rattle.std.proofs.Common.{sym, arith, subst, length}
 use Rattle.c_syntax.specs.declared.syntax.SynNode.{SynNode}
 use Rattle.c_nodes.specs.Parents.{IsWithin}
 use Rattle.c_nodes.proofs.ParentLaws.{kids_within}

@@ -1,6 +1,6 @@
-use Rattle.std.proofs.Common.{◌<◌, ◌∙◌, ◌⊎◌, inl, inr, ap, arith, length, refl, sym}
+use Rattle.std.proofs.Common.{◌<◌, ◌∙◌, ◌⊎◌, inl, inr, ap, arith, get_or, length, refl, sym}
 use Rattle.std.specs.Prelude.{slice_set}
-use Rattle.c_nodes.proofs.SpanLaws.{painted_none, one_more, painted_end}
+use Rattle.c_nodes.proofs.SpanLaws.{painted_none, one_more, painted_end, painted_at}
 use Rattle.c_nodes.proofs.spans.paint.Goals as goal
 
 pub loop-place-init : goal.loop-place-init
@@ -25,5 +25,8 @@ loop-place-preserved c =
       high = inr (omega (arith, some));
     }
 
-pub returns : goal.returns
-returns c = c.loop-place.invariant.painted ∙ painted_end c.args.from c.args.to c.loop-place.place c.args.number c.args.found.now c.loop-place-test.false c.loop-place.invariant.high
+pub returns-clause-is : goal.returns-clause-is
+returns-clause-is c = c.loop-place.invariant.painted ∙ painted_end c.args.from c.args.to c.loop-place.place c.args.number c.args.found.now c.loop-place-test.false c.loop-place.invariant.high
+
+pub returns-clause-places : goal.returns-clause-places
+returns-clause-places c = λ i. ap (λ xs. get_or xs i 0) (returns-clause-is c) ∙ painted_at c.args.from c.args.to c.args.number c.args.found.now i

@@ -6,7 +6,7 @@ use Rattle.c_nodes.proofs.SpanLaws.{from_index, span_before, none_yet, all_spans
 use Rattle.c_nodes.proofs.spans.paint_all.Goals as goal
 
 abbrev nowhere : Span
-nowhere = record { from = 0; to = 0; more_from = 0; more_to = 0 }
+nowhere = record { node = 0; from = 0; to = 0; more_from = 0; more_to = 0 }
 
 pub loop-left-init : goal.loop-left-init
 loop-left-init c = record { painted = c.requires.start ∙ none_yet c.args.spans.now (length c.args.found.now); long = refl; within = omega arith }
@@ -22,7 +22,7 @@ paint-requires c =
 long_after : (c : goal.After-paint-arg-in-loop-left-1) → length c.paint.new.found ≡ length c.args.found.now
 long_after c =
     let span = get_or c.args.spans.now (c.loop-left.left - 1) nowhere in
-    ap length c.paint.ensures ∙ length-painted 0 span.from (span.to + 1) (c.loop-left.left - 1) c.loop-left.found ∙ c.loop-left.auto.found
+    ap length c.paint.ensures.is ∙ length-painted 0 span.from (span.to + 1) (c.loop-left.left - 1) c.loop-left.found ∙ c.loop-left.auto.found
 
 pub paint-requires-in-loop-left : goal.paint-requires-in-loop-left
 paint-requires-in-loop-left c =
@@ -38,7 +38,7 @@ loop-left-preserved c =
     let low = c.loop-left.invariant.within in
     let span = get_or c.args.spans.now (c.loop-left.left - 1) nowhere in
     let i = c.loop-left.left - 1 in
-    let both = c.paint-in-loop-left.ensures ∙ ap (painted span.more_from span.more_to i) c.paint.ensures in
+    let both = c.paint-in-loop-left.ensures.is ∙ ap (painted span.more_from span.more_to i) c.paint.ensures.is in
     record {
       painted = both ∙ span_before c.args.spans.now c.loop-left.left some low nowhere (length c.args.found.now) c.loop-left.found c.loop-left.invariant.painted;
       long = ap length both ∙ length-painted 0 span.more_from (span.more_to + 1) i (painted span.from span.to i c.loop-left.found)

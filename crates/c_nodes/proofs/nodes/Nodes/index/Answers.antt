@@ -1,6 +1,6 @@
 use Rattle.std.proofs.Common.{◌≡◌, ◌<◌, ◌∙◌, ap, length, get_or, subst, sym, arith}
 use Rattle.std.proofs.lemmas.Grind.{common_steps}
-use Rattle.c_typing.specs.Places.{index_in, node_at, parent_of}
+use Rattle.c_typing.specs.Places.{index_in, parent_of}
 use Rattle.c_nodes.specs.declared.nodes.Parent.{Parent}
 use Rattle.c_nodes.specs.Parents.{nodes_in}
 use Rattle.c_nodes.proofs.ReadLaws.{index_is, kept_long}

@@ -1,5 +1,4 @@
 use Rattle.std.proofs.Common.{◌≡◌, ◌<◌, ◌∙◌, ap, sym, subst, length, get_or}
-use Rattle.c_syntax.specs.declared.syntax.SynNode.{SynNode}
 use Rattle.c_typing.specs.Places.{node_at, numbers}
 use Rattle.c_nodes.specs.Parents.{nodes_in, IsWithin}
 use Rattle.c_nodes.proofs.ReadLaws.{kids_are, kids_before}
