@@ -1,3 +1,5 @@
 pub mod IdLaws
 pub mod TableLaws
 pub mod MeasureLaws
+pub mod CloseLaws
+pub mod FindLaws

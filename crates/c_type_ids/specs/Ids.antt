@@ -1,5 +1,5 @@
 -- Which type an id names.
-use Rattle.std.specs.Prelude.{◌≡◌, ℕ, List, [], ◌∷◌, Option, Some, None, get_or, length}
+use Rattle.std.specs.Prelude.{◌≡◌, ◌<◌, ◌≤◌, ◌-◌, ◌^◌, ◌++◌, ℕ, min, List, [], ◌∷◌, Option, Some, None, get_or, length}
 use Rattle.c_types.specs.declared.kind.TypeId.{TypeId}
 use Rattle.c_types.specs.declared.kind.StructId.{StructId}
 use Rattle.c_types.specs.declared.kind.TypeKind.{TypeKind}
@@ -9,6 +9,8 @@ use Rattle.c_types.specs.Tables.{IsStruct}
 use Rattle.c_typing.specs.Types.{IntegerType, CType, CTypes, void, integer, pointer, array, unsized, struct, function, no_types, a_type, Field, Layout, layout_of}
 use Rattle.c_types.specs.declared.kind.Measure.{Measure}
 use Rattle.c_types.specs.InOrder.{offsets}
+use Rattle.c_types.specs.declared.kind.TheConstants.{MAX_SIZE}
+use Rattle.c_typing.specs.Declarators.{layout}
 use Rattle.c_type_ids.specs.declared.integers.Integer.TheVariants as number
 use Rattle.c_type_ids.specs.declared.kinds.Kind.{Kind}
 use Rattle.c_type_ids.specs.declared.kinds.Kind.TheVariants as shown
@@ -97,6 +99,12 @@ pub record Grows (old new : Known) : Type 0 where
   pub keeps : Keeps old new
   pub laid : (layouts : List Layout) → AreLaid old layouts → AreLaid new layouts
 
+-- an offset and a type are those of a field
+abbrev pub IsField : Known → Option (ℕ × TypeId) → Option Field → Type 0
+IsField k None None = Unit {0}
+IsField k (Some (offset, id)) (Some field) = (offset ≡ field.offset) × Names k id field.type
+IsField k found field = ⊥
+
 -- ---- members of a struct that is closed
 
 -- these members, with types that are known, are those fields
@@ -105,9 +113,17 @@ AreMembers k [] [] = Unit {0}
 AreMembers k (member ∷ members) (field ∷ fields) = (member.0 ≡ field.name) × Names k member.1 field.type × AreMembers k members fields
 AreMembers k members fields = ⊥
 
--- the struct that the node declares has no body yet
-abbrev pub HasNoBody : Known → ℕ → Type 0
-HasNoBody k node = (s : StructId) → struct_by k.structs node ≡ Some s → IsOpen k.table s
+-- the struct is closed with these members: where they are those fields, its layout is that of the rules, and is within the limit
+pub record IsClosedBy (old new : Known) (s : StructId) (members : List (List ℕ × TypeId)) : Type 0 where
+  pub keeps : Keeps old new
+  pub laid : (node : ℕ) (layouts : List Layout) (fields : List Field) → struct_by old.structs node ≡ Some s → AreLaid old layouts → AreMembers old members fields
+      → AreLaid new (layouts ++ layout layouts node fields ∷ [])
+  pub fits : (node : ℕ) (layouts : List Layout) (fields : List Field) → AreLaid old layouts → AreMembers old members fields → (layout layouts node fields).measure.size ≤ MAX_SIZE
+
+-- that layout is above the limit; a size above the greatest number is told as that number
+abbrev pub IsTooBigBy : Known → StructId → List (List ℕ × TypeId) → ℕ → Type 0
+IsTooBigBy old s members size = (node : ℕ) (layouts : List Layout) (fields : List Field) → AreLaid old layouts → AreMembers old members fields
+    → (MAX_SIZE < (layout layouts node fields).measure.size) × (size ≡ min (layout layouts node fields).measure.size (2 ^ 64 - 1))
 
 -- the kind of a type, as it is shown
 abbrev pub shown_by : TypeKind → Kind

@@ -1,18 +1,20 @@
 // The types of a unit by their ids.
-ghost use Rattle.std.specs.Prelude.{◌≡◌, ◌*◌, ◌<◌, ◌≤◌, ℕ, List, None, Some, Err, IfOk, IfSome, OnOk, OnSome, length, option_map, replicate};
+ghost use Rattle.std.specs.Prelude.{◌≡◌, ◌*◌, ◌<◌, ◌≤◌, ℕ, List, None, Some, Err, IfOk, IfSome, OnErr, OnOk, OnSome, length, option_map, replicate};
 ghost use Rattle.std.specs.List.{AllByRecursion};
 ghost use Rattle.c_types.specs.declared.kind.Measure.{Measure};
 ghost use Rattle.c_types.specs.declared.kind.TheConstants.{MAX_SIZE};
-ghost use Rattle.c_types.specs.Sizes.{Has, IsMeasured, IsSized, Measures, no_types};
+ghost use Rattle.c_types.specs.Sizes.{Has, IsMeasured, IsOpen, IsSized, Measures, no_types};
 ghost use Rattle.c_types.specs.Tables.{Fits, IsStruct, IsThere, IsTooBig, PartsAreThere};
 ghost use Rattle.c_typing.specs.Types as types;
 ghost use Rattle.c_typing.specs.Types.{CType, CTypes, Layout, align_of, measure};
+ghost use Rattle.c_typing.specs.Expressions.{field_of};
 ghost use Rattle.c_type_ids.specs.Integers.{integer_of};
-ghost use Rattle.c_type_ids.specs.Ids.{AreLaid, Grows, Names, NamesAll, Shows, shown_by, struct_by};
+ghost use Rattle.c_type_ids.specs.Ids.{AreLaid, Grows, IsClosedBy, IsField, IsTooBigBy, Names, NamesAll, Shows, shown_by, struct_by};
 
 use crate::integers::Integer;
 use crate::kinds::Kind;
 use c_types::{StructId, TypeFault, TypeId, TypeKind, TypeList, Types};
+use cp_base::Name;
 use std::alloc::{AllocError, Global};
 use std::marker::Model;
 
@@ -127,6 +129,26 @@ impl TypeTable {
         let s = self.types.open_struct()?;
         self.structs[node] = Some(s);
         Ok(s)
+    }
+
+    /// Gives a struct that has none its members. Its size is told where it is above the limit.
+    pub fn close(&mut self, s: StructId, members: &[(Name, TypeId)]) -> Result<(), TypeFault>
+        requires open { IsOpen self.old.table s }
+        requires sized { AllByRecursion (λ m. IsSized self.old.table m.1) members.now }
+        ensures laid { OnOk result (IsClosedBy self.old self.new s members.now) }
+        ensures too_big { (size : ℕ) → result ≡ Err (TypeFault.TooBig size) → IsTooBigBy self.old s members.now size }
+        ensures err { OnErr result (self.new ≡ self.old) }
+    {
+        self.types.close_struct(s, members)
+    }
+
+    /// The offset and the type of the member of this name.
+    pub fn member(&self, s: StructId, name: &str) -> Option<(u32, TypeId)>
+        requires { IsStruct self.now.table s }
+        ensures { (node : ℕ) (layouts : List Layout) → struct_by self.now.structs node ≡ Some s → AreLaid self.now layouts →
+            IsField self.now result (field_of layouts (types.struct node) name.now) }
+    {
+        self.types.member(s, name)
     }
 
     // A type that is no array, and so is within the limit.
