@@ -1,25 +1,23 @@
 -- A struct gets its members.
-use Rattle.std.proofs.Common.{◌≡◌, ◌≢◌, ◌⊎◌, inl, inr, Bool, true, false, ℕ, zero, suc, ◌+◌, ◌-◌, ◌^◌, ◌<◌, ◌≤◌, min, List, [], ◌∷◌, ◌++◌, length, map, get_or, refl, sym, ap, ap₂, ◌∙◌, subst, arith, Option, Some, None}
+use Rattle.std.proofs.Common.{◌≡◌, ◌≢◌, ◌⊎◌, inl, inr, Bool, true, false, ℕ, zero, suc, ◌-◌, ◌^◌, ◌<◌, min, List, [], ◌∷◌, ◌++◌, length, map, refl, sym, ap, ◌∙◌, subst, arith, Option, Some, None}
 use Rattle.c_types.specs.declared.types.TypeFault.{TypeFault}
-use Rattle.std.specs.Prelude.{Result, Ok, Err, OnOk, OnErr, slice_get, slice_set, nat_eq, unwrap_or, find, if◌then◌else◌, ◌==◌, option_and_then}
-use Rattle.std.specs.List.{AllByRecursion, list_any}
-use Rattle.std.specs.Str.{bytes_eq}
+use Rattle.std.specs.Prelude.{Result, Ok, Err, OnOk, OnErr, slice_get, slice_set, nat_eq, unwrap_or, if◌then◌else◌, ◌==◌}
+use Rattle.std.specs.List.{AllByRecursion}
 use Rattle.std.proofs.lemmas.Bool.{eq-eqb}
 use Rattle.std.proofs.lemmas.Bool.Decides.{eqb_tells}
 use Rattle.std.proofs.lemmas.List.{length-set}
 use Rattle.c_types.specs.declared.kind.TypeId.{TypeId}
 use Rattle.c_types.specs.declared.kind.StructId.{StructId}
-use Rattle.c_types.specs.declared.kind.TypeKind.{TypeKind}
 use Rattle.c_types.specs.declared.kind.TheConstants.{MAX_SIZE}
 use Rattle.c_types.specs.declared.kind.Measure.{Measure}
-use Rattle.c_types.specs.InOrder.{offsets, offsets_from}
-use Rattle.c_types.specs.Sizes.{Table, Member, Has, IsOpen, IsClosed, IsSized, IsMeasured, Measures, MeasuresAll, no_members, a_member, struct_measure}
-use Rattle.c_types.specs.Tables.{IsStruct, KeepsSizes, StructFits, StructIsTooBig, IsTooBig, closed, members_from}
+use Rattle.c_types.specs.InOrder.{offsets}
+use Rattle.c_types.specs.Sizes.{Table, Member, IsOpen, IsSized, MeasuresAll, no_members, a_member, struct_measure}
+use Rattle.c_types.specs.Tables.{KeepsSizes, StructFits, StructIsTooBig, closed, members_from}
 use Rattle.c_types.proofs.SizeLaws.{one_each}
 use Rattle.c_types.proofs.FieldLaws.{length-offsets_from}
 use Rattle.c_typing.specs.Types.{CType, Field, Layout, layout_of, measure, no_measure}
 use Rattle.c_typing.specs.Declarators.{layout, laid}
-use Rattle.c_type_ids.specs.Ids.{Known, Names, Keeps, AreDistinct, AreFields, AreMembers, IsClosedBy, IsTooBigBy, IsLaid, LaidAs, AreLaid, struct_by}
+use Rattle.c_type_ids.specs.Ids.{Known, Names, AreDistinct, AreFields, AreMembers, IsClosedBy, IsTooBigBy, IsLaid, LaidAs, AreLaid, struct_by}
 use Rattle.c_type_ids.proofs.IdLaws.{names_grow}
 use Rattle.c_type_ids.proofs.MeasureLaws.{measured_is}
 

@@ -1,20 +1,19 @@
 -- A member by its name.
 use Rattle.std.proofs.Common.{◌≡◌, ◌↔◌, Bool, true, false, ℕ, List, [], ◌∷◌, refl, sym, ap, ◌∙◌, subst, Option, Some, None}
-use Rattle.std.specs.Prelude.{slice_get, find, if◌then◌else◌, option_and_then}
+use Rattle.std.specs.Prelude.{find, if◌then◌else◌, option_and_then}
 use Rattle.std.specs.List.{list_any}
 use Rattle.std.specs.Str.{bytes_eq}
 use Rattle.c_types.specs.declared.kind.TypeId.{TypeId}
 use Rattle.c_types.specs.declared.kind.StructId.{StructId}
 use Rattle.c_types.specs.declared.kind.Measure.{Measure}
 use Rattle.c_types.specs.InOrder.{offsets}
-use Rattle.c_types.specs.Sizes.{Member, HasMember, IsClosed, IsOpen, MeasuresAll, member_of, members_of, members_in, names_of}
+use Rattle.c_types.specs.Sizes.{Member, HasMember, IsClosed, MeasuresAll, member_of, members_of, members_in, names_of}
 use Rattle.std.proofs.lemmas.Slice.Eq.{bytes_eq-Decides}
 use Rattle.std.proofs.lemmas.Bool.Decides.{same_from_decides}
 use Rattle.c_types.proofs.SizeLaws.{one_each}
 use Rattle.c_typing.specs.Types.{Field, Layout, layout_of, struct}
 use Rattle.c_typing.specs.Expressions.{field_of}
-use Rattle.c_type_ids.specs.Ids.{Known, Names, AreFields, IsField, IsLaid, LaidAs, AreLaid, struct_by}
-
+use Rattle.c_type_ids.specs.Ids.{Known, AreFields, IsField, LaidAs, AreLaid, struct_by}
 
 same_test : (a b : List ℕ) → bytes_eq a b ≡ bytes_eq b a
 same_test a b =

@@ -1,5 +1,5 @@
 -- The size of a type by its id, and by the rules.
-use Rattle.std.proofs.Common.{◌≡◌, ◌↔◌, ℕ, List, refl, sym, ap, ap₂, ◌∙◌, subst, Option, Some, None}
+use Rattle.std.proofs.Common.{◌≡◌, ◌↔◌, ℕ, List, refl, sym, ap, ◌∙◌, subst, Option, Some, None}
 use Rattle.std.specs.Prelude.{option_map, unwrap_or}
 use Rattle.c_types.specs.declared.kind.TypeId.{TypeId}
 use Rattle.c_types.specs.declared.kind.StructId.{StructId}
@@ -13,8 +13,8 @@ use Rattle.c_types.proofs.SizeLaws.{told, none_kind, one_measure}
 use Rattle.std.proofs.lemmas.Option.{slice_get_within}
 use Rattle.c_typing.specs.Types as types
 use Rattle.c_typing.specs.Types.{IntegerType, CType, void, integer, pointer, array, unsized, struct, function, Layout, layout_of, measure, align_of, no_measure, traits_of}
-use Rattle.c_type_ids.specs.Integers.{kind_of, integer_of}
-use Rattle.c_type_ids.specs.Ids.{Known, Names, Shows, shown_by, IsLaid, LaidAs, AreLaid, struct_by}
+use Rattle.c_type_ids.specs.Integers.{kind_of}
+use Rattle.c_type_ids.specs.Ids.{Known, Names, Shows, shown_by, LaidAs, AreLaid, struct_by}
 
 one_kind : (t : Table) (a : TypeId) {k l : TypeKind} → Has t a k → Has t a l → k ≡ l
 one_kind t a h i = let same = sym h ∙ i in cc same

@@ -1,5 +1,5 @@
 -- How a table of types grows.
-use Rattle.std.proofs.Common.{◌≡◌, ◌≢◌, ◌⊎◌, inl, inr, Bool, true, false, ℕ, zero, suc, ◌+◌, ◌<◌, ◌≤◌, List, [], ◌∷◌, ◌++◌, length, get_or, replicate, refl, sym, ap, ap₂, ◌∙◌, subst, arith, Option, Some, None, length-append}
+use Rattle.std.proofs.Common.{◌≡◌, ◌≢◌, ◌⊎◌, inl, inr, true, false, ℕ, zero, suc, ◌+◌, ◌<◌, List, [], ◌∷◌, ◌++◌, length, get_or, refl, sym, ap, ◌∙◌, subst, arith, Option, Some, None, length-append}
 use Rattle.std.specs.Prelude.{slice_get, slice_set, nat_eq, Result, Ok, Err, IfOk, IfSome, OnErr}
 use Rattle.c_types.specs.declared.types.TypeFault.{TypeFault}
 use Rattle.std.proofs.lemmas.List.{get_or-set_same, get_or-set_other, length-set}
@@ -9,8 +9,8 @@ use Rattle.c_types.specs.declared.kind.StructId.{StructId}
 use Rattle.c_types.specs.declared.kind.TypeKind.{TypeKind}
 use Rattle.c_types.specs.declared.kind.Measure.{Measure}
 use Rattle.c_types.specs.InOrder.{offsets}
-use Rattle.c_types.specs.Sizes.{Table, Member, Has, IsOpen, IsClosed, IsSized, Measures, MeasuresAll, no_members, a_member}
-use Rattle.c_types.specs.Tables.{IsStruct, IsThere, IsAdded, IsOpened, KeepsSizes}
+use Rattle.c_types.specs.Sizes.{Table, Member, Has, IsOpen, IsClosed, MeasuresAll, no_members, a_member}
+use Rattle.c_types.specs.Tables.{IsStruct, IsAdded, IsOpened, KeepsSizes}
 use Rattle.c_types.proofs.KeptLaws.{at_front, added_keeps}
 use Rattle.c_typing.specs.Types.{CType, Field, Layout, layout_of}
 use Rattle.c_type_ids.specs.Ids.{Known, Names, Keeps, Grows, AreDistinct, AreFields, IsLaid, LaidAs, AreLaid, struct_by}

@@ -6,7 +6,7 @@ use Rattle.c_types.specs.declared.kind.TypeKind.{TypeKind}
 use Rattle.c_types.specs.declared.kind.TypeKind.TheVariants as kind
 use Rattle.c_types.specs.Sizes.{Table, Member, Has, IsOpen, IsClosed, IsSized, MeasuresAll, struct_measure}
 use Rattle.c_types.specs.Tables.{IsStruct}
-use Rattle.c_typing.specs.Types.{IntegerType, CType, CTypes, void, integer, pointer, array, unsized, struct, function, no_types, a_type, Field, Layout, layout_of}
+use Rattle.c_typing.specs.Types.{CType, CTypes, void, integer, pointer, array, unsized, struct, function, no_types, a_type, Field, Layout, layout_of}
 use Rattle.c_types.specs.declared.kind.Measure.{Measure}
 use Rattle.c_types.specs.InOrder.{offsets}
 use Rattle.c_types.specs.declared.kind.TheConstants.{MAX_SIZE}

@@ -1,9 +1,9 @@
-use Rattle.std.proofs.Common.{◌≡◌, ◌*◌, ◌≤◌, sym, subst, ap, ◌∙◌}
+use Rattle.std.proofs.Common.{◌*◌, ◌≤◌, sym, ap, ◌∙◌}
 use Rattle.c_types.specs.declared.kind.TypeKind.TheVariants as kind
 use Rattle.c_types.specs.declared.kind.TheConstants.{MAX_SIZE}
 use Rattle.c_types.specs.declared.kind.Measure.{Measure}
 use Rattle.c_types.specs.Sizes.{Has, IsMeasured, array}
-use Rattle.c_types.specs.Tables.{Fits, IsTooBig}
+use Rattle.c_types.specs.Tables.{Fits}
 use Rattle.c_types.proofs.SizeLaws.{told}
 use Rattle.c_typing.specs.Types as types
 use Rattle.c_typing.specs.Types.{CType}

@@ -1,7 +1,4 @@
-use Rattle.std.proofs.Common.{◌≡◌, ◌<◌, ◌∙◌, None, Some, Option, ap, get_or, length, subst, sym}
-use Rattle.std.specs.Prelude.{IfSome}
-use Rattle.c_types.specs.declared.kind.StructId.{StructId}
-use Rattle.c_types.specs.Tables.{IsStruct}
+use Rattle.std.proofs.Common.{◌<◌, ◌∙◌, None, ap, length, subst, sym}
 use Rattle.c_type_ids.specs.Ids.{Known, AreDistinct, struct_by}
 use Rattle.c_type_ids.proofs.TableLaws.{any_default, read_there}
 use Rattle.c_type_ids.proofs.table.TypeTable.struct_at.Goals as goal
