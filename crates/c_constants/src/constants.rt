@@ -1,6 +1,7 @@
 // What an expression is as a constant (C99 6.6).
 ghost use Rattle.std.specs.Prelude.{◌≡◌, ◌+◌, ◌-◌, ◌*◌, ◌%◌, ◌^◌};
 ghost use Rattle.c_typing.specs.Types as types;
+ghost use Rattle.c_typing.specs.Judgements.{number};
 ghost use Rattle.c_typing.specs.Constants as constants;
 ghost use Rattle.c_typing.specs.Conversions as conversions;
 ghost use Rattle.c_typing.specs.Rules as rules;
@@ -47,10 +48,20 @@ pub fn is_null(constant: Constant) -> bool
 pub fn operated(operator: COp, node: usize, left: Constant, right: Constant) -> Constant
     ensures { constant_of result ≡ constants.operated operator node (constant_of left) (constant_of right) }
 {
-    match (left, right) {
-        (Constant::Number(a), Constant::Number(b)) => evaluated(node, operate(operator, a, b)),
-        (Constant::Undefined(part), _) => where_formed(right, Constant::Undefined(part)),
-        (_, Constant::Undefined(part)) => where_formed(left, Constant::Undefined(part)),
+    match left {
+        Constant::Number(a) => operated_on(operator, node, a, right),
+        Constant::Undefined(part) => where_formed(right, Constant::Undefined(part)),
+        _ => Constant::None,
+    }
+}
+
+// The same where the left operand has a value.
+fn operated_on(operator: COp, node: usize, left: u32, right: Constant) -> Constant
+    ensures { constant_of result ≡ constants.operated operator node (number left) (constant_of right) }
+{
+    match right {
+        Constant::Number(right) => evaluated(node, operate(operator, left, right)),
+        Constant::Undefined(part) => Constant::Undefined(part),
         _ => Constant::None,
     }
 }

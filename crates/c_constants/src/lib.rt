@@ -1,4 +1,16 @@
 // Constant expressions.
+//
+// In comes what the operands of an operator are as constants. Out goes what the whole is: no constant, a word, a null
+// pointer, the address of an object with an addend, or a constant whose evaluated part at some node has no defined value.
+//
+// The idea: one value of a small type goes up the tree beside each expression, and each operator has one function.
+//
+// The theorem, on each function: the answer is that of the definition in `c_typing`. On `operate`: the word is that of the
+// operators of C, and there is none exactly where C99 has it undefined.
+//
+// `constants` has the constants, `operators` the operators on words.
+//
+// Source: C99 6.5, 6.6.
 #![tactic(auto)]
 
 mod constants;
