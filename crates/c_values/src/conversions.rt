@@ -1,0 +1,1 @@
+// Values, and their conversions (C99 6.3).
