@@ -3,3 +3,4 @@ pub mod TableLaws
 pub mod MeasureLaws
 pub mod CloseLaws
 pub mod FindLaws
+pub mod SameLaws

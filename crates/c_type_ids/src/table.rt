@@ -6,7 +6,7 @@ ghost use Rattle.c_types.specs.declared.kind.TheConstants.{MAX_SIZE};
 ghost use Rattle.c_types.specs.Sizes.{Has, IsMeasured, IsOpen, IsSized, Measures, no_types};
 ghost use Rattle.c_types.specs.Tables.{Fits, IsStruct, IsThere, IsTooBig, PartsAreThere};
 ghost use Rattle.c_typing.specs.Types as types;
-ghost use Rattle.c_typing.specs.Types.{CType, CTypes, Layout, align_of, measure};
+ghost use Rattle.c_typing.specs.Types.{CType, CTypes, Layout, align_of, measure, same};
 ghost use Rattle.c_typing.specs.Expressions.{field_of};
 ghost use Rattle.c_type_ids.specs.Integers.{integer_of};
 ghost use Rattle.c_type_ids.specs.Ids.{AreLaid, Grows, IsClosedBy, IsField, IsTooBigBy, Names, NamesAll, Shows, shown_by, struct_by};
@@ -181,6 +181,14 @@ impl TypeTable {
         ensures { (t : CType) → Names self.now id t → Shows self.now result t }
     {
         shown_by(self.types.kind(id))
+    }
+
+    /// Two types are the same, qualifiers aside.
+    pub fn is_same(&self, left: TypeId, right: TypeId) -> bool
+        ensures { (t u : CType) → Names self.now left t → Names self.now right u → result ≡ same t u }
+    {
+        let _ = &self.types;
+        left.number == right.number
     }
 
     /// The size of a type, where it has one.
