@@ -2,7 +2,9 @@
 use Rattle.std.specs.Prelude.{◌≡◌, ℕ}
 use Rattle.c_typing.specs.Types.{CType, unsized}
 use Rattle.c_typing.specs.Judgements as rules
-use Rattle.c_type_ids.specs.Ids.{Known, Names}
+use Rattle.c_type_ids.specs.Ids.{Known, Names, Shows}
+use Rattle.c_values.specs.declared.conversions.Shown.{Shown}
+use Rattle.c_values.specs.declared.conversions.Shown.TheVariants as shown
 use Rattle.c_constants.specs.Constants.{constant_of}
 use Rattle.c_values.specs.declared.typings.«Type».{«Type» as TypeForm}
 use Rattle.c_values.specs.declared.typings.«Type».TheVariants as type
@@ -35,3 +37,8 @@ pub record Is (k : Known) (x : Typing) (y : rules.Typing) : Type 0 where
   pub form : form_of x.form ≡ y.form
   pub constant : constant_of x.constant ≡ y.constant
   pub code : x.code ≡ y.code
+
+abbrev pub ShownAs : Known → Shown → CType → Type 0
+ShownAs k (shown.Kind kind) t = Shows k kind t
+ShownAs k (shown.Unsized id) (unsized t) = Names k id t
+ShownAs k (shown.Unsized id) t = ⊥

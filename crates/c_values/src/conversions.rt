@@ -1,1 +1,116 @@
 // Values, and their conversions (C99 6.3).
+ghost use Rattle.std.specs.Prelude.{◌≡◌, IfOk};
+ghost use Rattle.c_types.specs.Forms as forms;
+ghost use Rattle.c_types.specs.Tables.{IsThere};
+ghost use Rattle.c_typing.specs.Types as types;
+ghost use Rattle.c_typing.specs.Judgements as rules;
+ghost use Rattle.c_typing.specs.Conversions as conversions;
+ghost use Rattle.c_type_ids.specs.Ids.{Grows, Known, Names, Shows};
+ghost use Rattle.c_values.specs.Typings.{Is, IsType, ShownAs};
+
+use crate::codes::load;
+use crate::typings::{Form, Type, Typing};
+use c_constants::{Constant, address_in};
+use c_type_ids::{Kind, TypeTable, traits_of};
+use c_types::TypeId;
+use cp_base::Kind as Access;
+use std::alloc::{AllocError, Global};
+
+/// What a type is; of an array without a length, its elements.
+#[derive(Clone, Copy)]
+pub enum Shown {
+    Kind(Kind),
+    Unsized(TypeId),
+}
+
+pub fn kind_of(table: &TypeTable, kind: Type) -> Shown
+    requires { (t : types.CType) × IsType table.now kind t }
+    ensures { (t : types.CType) → IsType table.now kind t → ShownAs table.now result t }
+{
+    match kind {
+        Type::Known(id) => Shown::Kind(table.kind(id)),
+        Type::Unsized(element) => Shown::Unsized(element),
+    }
+}
+
+/// How a value of a type is read from memory.
+pub fn access_of(shown: Kind) -> Access
+    ensures { (k : Known) (t : types.CType) → Shows k shown t → result ≡ conversions.access_of t }
+{
+    match shown {
+        Kind::Integer(integer) => traits_of(integer).access,
+        _ => Access::W32,
+    }
+}
+
+/// The value of an expression: an lvalue is read, an array is a pointer to its first element, and a struct stays at its
+/// place.
+pub fn value_of(
+    alloc: Global,
+    table: &mut TypeTable,
+    typing: Typing,
+) -> Result<Typing, AllocError>
+    requires { (y : rules.Typing) × Is table.old typing y }
+    ensures is { IfOk result (λ value. (y : rules.Typing) → Is table.old typing y → Is table.new value (conversions.value_of y)) }
+    ensures grows { Grows table.old table.new }
+{
+    match typing.form {
+        Form::InLocal(_) => Ok(Typing {
+            form: Form::Value,
+            constant: Constant::None,
+            ..typing
+        }),
+        Form::InMemory | Form::Temporary => read(alloc, table, typing),
+        _ => Ok(typing),
+    }
+}
+
+// The value of what stands in memory.
+fn read(alloc: Global, table: &mut TypeTable, typing: Typing) -> Result<Typing, AllocError>
+    requires { (y : rules.Typing) × Is table.old typing y }
+    ensures is { IfOk result (λ value. (y : rules.Typing) → Is table.old typing y → Is table.new value (conversions.read_by y.type y)) }
+    ensures grows { Grows table.old table.new }
+{
+    match kind_of(table, typing.kind) {
+        Shown::Unsized(element) => pointed(table, element, typing),
+        Shown::Kind(Kind::Array(element, _)) => pointed(table, element, typing),
+        Shown::Kind(Kind::Struct(_)) => Ok(Typing {
+            form: Form::Temporary,
+            constant: Constant::None,
+            ..typing
+        }),
+        Shown::Kind(kind) => loaded(alloc, access_of(kind), typing),
+    }
+}
+
+// An array is a pointer to its first element, which has this type.
+fn pointed(
+    table: &mut TypeTable,
+    element: TypeId,
+    typing: Typing,
+) -> Result<Typing, AllocError>
+    requires { IsThere table.old.table element }
+    ensures is { IfOk result (λ value. (t : types.CType) (y : rules.Typing) → Names table.old element t → Is table.old typing y →
+        Is table.new value (conversions.valued (types.pointer t) y.code (conversions.address_in y.constant))) }
+    ensures grows { Grows table.old table.new }
+{
+    let pointer = table.pointer(element)?;
+    Ok(Typing {
+        kind: Type::Known(pointer),
+        form: Form::Value,
+        constant: address_in(typing.constant),
+        code: typing.code,
+    })
+}
+
+// What stands at a place is read.
+fn loaded(alloc: Global, access: Access, typing: Typing) -> Result<Typing, AllocError>
+    ensures { IfOk result (λ value. (k : Known) (y : rules.Typing) → Is k typing y → Is k value (conversions.valued y.type (forms.load access y.code) rules.no_constant)) }
+{
+    Ok(Typing {
+        kind: typing.kind,
+        form: Form::Value,
+        constant: Constant::None,
+        code: load(alloc, access, typing.code)?,
+    })
+}
