@@ -1,11 +1,11 @@
 -- The value of what stands in memory, by its type.
-use Rattle.std.proofs.Common.{◌≡◌, ◌≢◌, ℕ, refl, sym, ap, ap₂, ◌∙◌, subst}
+use Rattle.std.proofs.Common.{◌≡◌, ◌≢◌, ℕ, false, refl, sym, ap, ap₂, ◌∙◌, subst}
 use Rattle.std.specs.Prelude.{Result, Ok, Err, IfOk}
 use Rattle.c_types.specs.declared.kind.TypeId.{TypeId}
 use Rattle.c_types.specs.declared.kind.StructId.{StructId}
 use Rattle.c_types.specs.Tables.{IsThere}
 use Rattle.c_types.specs.Forms.{load}
-use Rattle.c_typing.specs.Types.{CType, void, integer, pointer, array, unsized, struct, function}
+use Rattle.c_typing.specs.Types.{CType, same, void, integer, pointer, array, unsized, struct, function}
 use Rattle.c_typing.specs.Judgements as rules
 use Rattle.c_typing.specs.Judgements.{temporary, no_constant}
 use Rattle.c_typing.specs.Conversions.{valued, access_of, address_in, read_by, value_of}
@@ -70,3 +70,23 @@ decay old new x element (Ok v) shows h = λ y is.
     let (t, named, same) = shows y.type is.type in
     subst (Is new v) (sym (same y)) (h t y named is)
 decay old new x element (Err e) shows h = tt
+
+-- ---- conversions
+
+pub known_unsized : (k : Known) (id : TypeId) (t u : CType) → Names k id t → same t (unsized u) ≡ false
+known_unsized k id void u h = refl
+known_unsized k id (integer t) u h = refl
+known_unsized k id (pointer t) u h = refl
+known_unsized k id (array t n) u h = refl
+known_unsized k id (unsized t) u h = absurd h
+known_unsized k id (struct node) u h = refl
+known_unsized k id (function t ts) u h = refl
+
+pub unsized_known : (k : Known) (id : TypeId) (t u : CType) → Names k id u → same (unsized t) u ≡ false
+unsized_known k id t void h = refl
+unsized_known k id t (integer u) h = refl
+unsized_known k id t (pointer u) h = refl
+unsized_known k id t (array u n) h = refl
+unsized_known k id t (unsized u) h = absurd h
+unsized_known k id t (struct node) h = refl
+unsized_known k id t (function u us) h = refl

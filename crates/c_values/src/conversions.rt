@@ -8,12 +8,12 @@ ghost use Rattle.c_typing.specs.Conversions as conversions;
 ghost use Rattle.c_type_ids.specs.Ids.{Grows, Known, Names, Shows};
 ghost use Rattle.c_values.specs.Typings.{Is, IsType, ShownAs};
 
-use crate::codes::load;
+use crate::codes::{convert, load};
 use crate::typings::{Form, Type, Typing};
 use c_constants::{Constant, address_in};
 use c_type_ids::{Kind, TypeTable, traits_of};
-use c_types::TypeId;
-use cp_base::Kind as Access;
+use c_types::{Expr, TypeId};
+use cp_base::{Kind as Access, To};
 use std::alloc::{AllocError, Global};
 
 /// What a type is; of an array without a length, its elements.
@@ -113,4 +113,47 @@ fn loaded(alloc: Global, access: Access, typing: Typing) -> Result<Typing, Alloc
         constant: Constant::None,
         code: load(alloc, access, typing.code)?,
     })
+}
+
+/// Two types are the same, qualifiers aside.
+pub fn is_same(table: &TypeTable, left: Type, right: Type) -> bool
+    ensures { (t u : types.CType) → IsType table.now left t → IsType table.now right u → result ≡ types.same t u }
+{
+    match (left, right) {
+        (Type::Known(left), Type::Known(right)) => table.is_same(left, right),
+        (Type::Unsized(left), Type::Unsized(right)) => table.is_same(left, right),
+        _ => false,
+    }
+}
+
+/// The code of a value of one type, as a value of another: what is narrower is made so.
+pub fn converted(
+    alloc: Global,
+    table: &TypeTable,
+    from: Type,
+    to: Type,
+    code: Expr,
+) -> Result<Expr, AllocError>
+    requires { (u : types.CType) × IsType table.now to u }
+    ensures { IfOk result (λ e. (t u : types.CType) → IsType table.now from t → IsType table.now to u → e ≡ conversions.converted_code t u code) }
+{
+    match kind_of(table, to) {
+        Shown::Kind(Kind::Integer(integer)) => {
+            if is_same(table, from, to) {
+                Ok(code)
+            } else {
+                narrowed(alloc, traits_of(integer).narrowing, code)
+            }
+        }
+        _ => Ok(code),
+    }
+}
+
+fn narrowed(alloc: Global, narrowing: Option<To>, code: Expr) -> Result<Expr, AllocError>
+    ensures { IfOk result (λ e. e ≡ conversions.narrowed narrowing code) }
+{
+    match narrowing {
+        Some(to) => convert(alloc, to, code),
+        None => Ok(code),
+    }
 }
