@@ -1,12 +1,13 @@
 -- Two types are the same where their ids are.
-use Rattle.std.proofs.Common.{◌≡◌, ◌≢◌, ◌⊎◌, inl, inr, ℕ, Bool, true, false, ◌&&◌, refl, sym, ap, ap₂, ◌∙◌, subst, true≢false}
+use Rattle.std.proofs.Common.{◌≡◌, ◌≢◌, ◌⊎◌, inl, inr, ℕ, Bool, true, false, ◌&&◌, refl, sym, ap, ap₂, ◌∙◌, subst, true≢false, Some}
 use Rattle.std.specs.Prelude.{nat_eq, ◌==◌}
 use Rattle.std.proofs.lemmas.Bool.{eq-eqb, eqb-true}
 use Rattle.std.proofs.lemmas.Bool.Decides.{eqb_tells}
 use Rattle.c_types.specs.declared.kind.TypeId.{TypeId}
 use Rattle.c_typing.specs.Types as types
 use Rattle.c_typing.specs.Types.{IntegerType, CType, CTypes, void, integer, pointer, array, unsized, struct, function, no_types, a_type, code_of, same, same_all}
-use Rattle.c_type_ids.specs.Ids.{Known, Names, AreDistinct}
+use Rattle.c_type_ids.specs.Ids.{Known, Names, AreDistinct, struct_by}
+use Rattle.c_types.specs.declared.kind.StructId.{StructId}
 use Rattle.c_type_ids.proofs.IdLaws.{one_id, one_type}
 
 both_true : {p q : Bool} → p && q ≡ true → (p ≡ true) × (q ≡ true)
@@ -200,3 +201,19 @@ same_ids k d a b t u h i = by (eqb_tells a.number b.number)
     by : ((nat_eq a.number b.number ≡ true) × (a.number ≡ b.number)) ⊎ ((nat_eq a.number b.number ≡ false) × (a.number ≢ b.number)) → (a.number == b.number) ≡ same t u
     by (inl (x, e)) = x ∙ sym (ap (same t) (sym (one_type k d b t u (subst (λ z. Names k z t) (one_number e) h) i)) ∙ same_itself t)
     by (inr (x, other)) = x ∙ sym (differ other (same t u) refl)
+
+pub same_structs : (k : Known) → AreDistinct k → (s r : StructId) (a b : ℕ) → struct_by k.structs a ≡ Some s → struct_by k.structs b ≡ Some r → (s.number == r.number) ≡ (a == b)
+same_structs k d s r a b h i = by (eqb_tells s.number r.number) (eqb_tells a b)
+  where
+    one_number : s.number ≡ r.number → s ≡ r
+    one_number e = ap (λ n. record { number = n }) e
+
+    some_same : Some s ≡ Some r → s ≡ r
+    some_same e = cc e
+
+    by : ((nat_eq s.number r.number ≡ true) × (s.number ≡ r.number)) ⊎ ((nat_eq s.number r.number ≡ false) × (s.number ≢ r.number))
+        → ((nat_eq a b ≡ true) × (a ≡ b)) ⊎ ((nat_eq a b ≡ false) × (a ≢ b)) → (s.number == r.number) ≡ (a == b)
+    by (inl (x, e)) (inl (y, f)) = x ∙ sym y
+    by (inl (x, e)) (inr (y, other)) = absurd (other (d.nodes a b r (subst (λ z. struct_by k.structs a ≡ Some z) (one_number e) h) i))
+    by (inr (x, other)) (inl (y, f)) = absurd (other (ap (λ (z : StructId). z.number) (some_same (sym h ∙ (ap (struct_by k.structs) f ∙ i)))))
+    by (inr (x, other)) (inr (y, apart)) = x ∙ sym y

@@ -1,5 +1,5 @@
 // The types of a unit by their ids.
-ghost use Rattle.std.specs.Prelude.{◌≡◌, ◌*◌, ◌<◌, ◌≤◌, ℕ, List, None, Some, Err, IfOk, IfSome, OnErr, OnOk, OnSome, length, option_map, replicate};
+ghost use Rattle.std.specs.Prelude.{◌≡◌, ◌==◌, ◌*◌, ◌<◌, ◌≤◌, ℕ, List, None, Some, Err, IfOk, IfSome, OnErr, OnOk, OnSome, length, option_map, replicate};
 ghost use Rattle.std.specs.List.{AllByRecursion};
 ghost use Rattle.c_types.specs.declared.kind.Measure.{Measure};
 ghost use Rattle.c_types.specs.declared.kind.TheConstants.{MAX_SIZE};
@@ -186,6 +186,14 @@ impl TypeTable {
     /// Two types are the same, qualifiers aside.
     pub fn is_same(&self, left: TypeId, right: TypeId) -> bool
         ensures { (t u : CType) → Names self.now left t → Names self.now right u → result ≡ same t u }
+    {
+        let _ = &self.types;
+        left.number == right.number
+    }
+
+    /// Two structs are declared by one node.
+    pub fn is_same_struct(&self, left: StructId, right: StructId) -> bool
+        ensures { (a b : ℕ) → struct_by self.now.structs a ≡ Some left → struct_by self.now.structs b ≡ Some right → result ≡ (a == b) }
     {
         let _ = &self.types;
         left.number == right.number

@@ -1,18 +1,19 @@
 // Values, and their conversions (C99 6.3).
-ghost use Rattle.std.specs.Prelude.{◌≡◌, IfOk};
+ghost use Rattle.std.specs.Prelude.{◌≡◌, ℕ, Bool, IfOk, Some};
 ghost use Rattle.c_types.specs.Forms as forms;
 ghost use Rattle.c_types.specs.Tables.{IsThere};
 ghost use Rattle.c_typing.specs.Types as types;
 ghost use Rattle.c_typing.specs.Judgements as rules;
 ghost use Rattle.c_typing.specs.Conversions as conversions;
-ghost use Rattle.c_type_ids.specs.Ids.{Grows, Known, Names, Shows};
+ghost use Rattle.c_type_ids.specs.Ids.{Grows, Known, Names, Shows, struct_by};
+ghost use Rattle.c_type_ids.specs.Integers.{integer_of};
 ghost use Rattle.c_values.specs.Typings.{Is, IsType, ShownAs};
 
 use crate::codes::{convert, load};
 use crate::typings::{Form, Type, Typing};
 use c_constants::{Constant, address_in};
-use c_type_ids::{Kind, TypeTable, traits_of};
-use c_types::{Expr, TypeId};
+use c_type_ids::{Integer, Kind, TypeTable, traits_of};
+use c_types::{Expr, StructId, TypeId};
 use cp_base::{Kind as Access, To};
 use std::alloc::{AllocError, Global};
 
@@ -156,4 +157,74 @@ fn narrowed(alloc: Global, narrowing: Option<To>, code: Expr) -> Result<Expr, Al
         Some(to) => convert(alloc, to, code),
         None => Ok(code),
     }
+}
+
+/// A value of this type, which may be a null pointer constant, may be assigned to an object of that type.
+pub fn is_assignable(table: &TypeTable, to: Type, from: Type, is_null: bool) -> bool
+    requires to { (t : types.CType) × IsType table.now to t }
+    requires from { (u : types.CType) × IsType table.now from u }
+    ensures { (t u : types.CType) → IsType table.now to t → IsType table.now from u → result ≡ conversions.is_assignable_by t u is_null }
+{
+    let source = kind_of(table, from);
+    match kind_of(table, to) {
+        Shown::Kind(kind) => takes(table, kind, source, is_null),
+        Shown::Unsized(_) => false,
+    }
+}
+
+fn takes(table: &TypeTable, to: Kind, from: Shown, is_null: bool) -> bool
+    requires to { (t : types.CType) × Shows table.now to t }
+    requires from { (u : types.CType) × ShownAs table.now from u }
+    ensures { (t u : types.CType) → Shows table.now to t → ShownAs table.now from u → result ≡ conversions.is_assignable_by t u is_null }
+{
+    match to {
+        Kind::Integer(integer) => integer_takes(integer, from),
+        Kind::Pointer(target) => pointer_takes(table, target, from, is_null),
+        Kind::Struct(s) => struct_takes(table, s, from),
+        _ => false,
+    }
+}
+
+fn integer_takes(to: Integer, from: Shown) -> bool
+    ensures { (k : Known) (u : types.CType) (is_null : Bool) → ShownAs k from u → result ≡ conversions.is_assignable_by (types.integer (integer_of to)) u is_null }
+{
+    match from {
+        Shown::Kind(Kind::Integer(_)) => true,
+        Shown::Kind(Kind::Pointer(_)) => matches!(to, Integer::Bool),
+        _ => false,
+    }
+}
+
+fn pointer_takes(table: &TypeTable, target: TypeId, from: Shown, is_null: bool) -> bool
+    requires target { IsThere table.now.table target }
+    requires from { (u : types.CType) × ShownAs table.now from u }
+    ensures { (t u : types.CType) → Names table.now target t → ShownAs table.now from u → result ≡ conversions.is_assignable_by (types.pointer t) u is_null }
+{
+    match from {
+        Shown::Kind(Kind::Pointer(source)) => {
+            table.is_same(target, source)
+                || is_void(table, target)
+                || is_void(table, source)
+                || is_null
+        }
+        _ => is_null,
+    }
+}
+
+fn struct_takes(table: &TypeTable, to: StructId, from: Shown) -> bool
+    ensures { (node : ℕ) (u : types.CType) (is_null : Bool) → struct_by table.now.structs node ≡ Some to → ShownAs table.now from u →
+        result ≡ conversions.is_assignable_by (types.struct node) u is_null }
+{
+    match from {
+        Shown::Kind(Kind::Struct(s)) => table.is_same_struct(to, s),
+        _ => false,
+    }
+}
+
+/// The type is `void`.
+pub fn is_void(table: &TypeTable, id: TypeId) -> bool
+    requires { IsThere table.now.table id }
+    ensures { (t : types.CType) → Names table.now id t → result ≡ types.is_void t }
+{
+    matches!(table.kind(id), Kind::Void)
 }

@@ -8,5 +8,5 @@ mod typings;
 pub use codes::{
     binary, both, choose, convert, copy, either, load, seq, set_local, store,
 };
-pub use conversions::{Shown, access_of, converted, is_same, kind_of, value_of};
+pub use conversions::{Shown, access_of, converted, is_assignable, is_same, is_void, kind_of, value_of};
 pub use typings::{Callee, Form, Type, Typing};
