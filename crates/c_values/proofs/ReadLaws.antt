@@ -12,6 +12,8 @@ use Rattle.c_typing.specs.Conversions.{valued, access_of, address_in, read_by, v
 use Rattle.c_type_ids.specs.declared.kinds.Kind.{Kind}
 use Rattle.c_type_ids.specs.declared.kinds.Kind.TheVariants as kind
 use Rattle.c_type_ids.specs.Ids.{Known, Names, Shows, Grows}
+use Rattle.c_type_ids.specs.declared.integers.Integer.{Integer}
+use Rattle.c_type_ids.specs.Integers.{integer_of}
 use Rattle.c_type_ids.proofs.IdLaws.{names_grow}
 use Rattle.c_type_ids.proofs.MeasureLaws.{names_there}
 use Rattle.c_values.specs.declared.conversions.Shown.{Shown}
@@ -90,3 +92,12 @@ unsized_known k id t (array u n) h = refl
 unsized_known k id t (unsized u) h = absurd h
 unsized_known k id t (struct node) h = refl
 unsized_known k id t (function u us) h = refl
+
+pub integer_is : (k : Known) (i : Integer) (t : CType) → Shows k (kind.Integer i) t → integer (integer_of i) ≡ t
+integer_is k i void h = absurd h
+integer_is k i (integer t) h = ap integer h
+integer_is k i (pointer t) h = absurd h
+integer_is k i (array t n) h = absurd h
+integer_is k i (unsized t) h = absurd h
+integer_is k i (struct node) h = absurd h
+integer_is k i (function t ts) h = absurd h
