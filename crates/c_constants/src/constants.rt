@@ -254,7 +254,8 @@ pub fn pointer_cast(is_to_void: bool, constant: Constant) -> Constant
 {
     match constant {
         Constant::Number(0) if is_to_void => Constant::NullPointer,
-        Constant::Number(0) | Constant::NullPointer | Constant::ZeroPointer => Constant::ZeroPointer,
+        Constant::Number(0) | Constant::NullPointer | Constant::ZeroPointer =>
+            Constant::ZeroPointer,
         Constant::AddressOf(..) | Constant::UndefinedAddress(_) => constant,
         _ => Constant::None,
     }

@@ -1,27 +1,21 @@
 -- The value of what stands in memory, by its type.
-use Rattle.std.proofs.Common.{◌≡◌, ◌≢◌, ℕ, false, refl, sym, ap, ap₂, ◌∙◌, subst}
+use Rattle.std.proofs.Common.{◌≡◌, ◌≢◌, ℕ, false, refl, sym, ap, subst}
 use Rattle.std.specs.Prelude.{Result, Ok, Err, IfOk}
 use Rattle.c_types.specs.declared.kind.TypeId.{TypeId}
 use Rattle.c_types.specs.declared.kind.StructId.{StructId}
-use Rattle.c_types.specs.Tables.{IsThere}
 use Rattle.c_types.specs.Forms.{load}
 use Rattle.c_typing.specs.Types.{CType, same, void, integer, pointer, array, unsized, struct, function}
 use Rattle.c_typing.specs.Judgements as rules
 use Rattle.c_typing.specs.Judgements.{temporary, no_constant}
-use Rattle.c_typing.specs.Conversions.{valued, access_of, address_in, read_by, value_of}
+use Rattle.c_typing.specs.Conversions.{valued, access_of, address_in, read_by}
 use Rattle.c_type_ids.specs.declared.kinds.Kind.{Kind}
 use Rattle.c_type_ids.specs.declared.kinds.Kind.TheVariants as kind
-use Rattle.c_type_ids.specs.Ids.{Known, Names, Shows, Grows}
+use Rattle.c_type_ids.specs.Ids.{Known, Names, Shows}
 use Rattle.c_type_ids.specs.declared.integers.Integer.{Integer}
 use Rattle.c_type_ids.specs.Integers.{integer_of}
-use Rattle.c_type_ids.proofs.IdLaws.{names_grow}
-use Rattle.c_type_ids.proofs.MeasureLaws.{names_there}
-use Rattle.c_values.specs.declared.conversions.Shown.{Shown}
 use Rattle.c_values.specs.declared.conversions.Shown.TheVariants as shown
-use Rattle.c_values.specs.declared.typings.«Type».{«Type» as TypeForm}
-use Rattle.c_values.specs.declared.typings.«Type».TheVariants as type
 use Rattle.c_values.specs.declared.typings.Typing.{Typing}
-use Rattle.c_values.specs.Typings.{IsType, Is, ShownAs, form_of}
+use Rattle.c_values.specs.Typings.{IsType, Is, ShownAs}
 
 -- an array, by its element
 abbrev Decays : Known → TypeId → CType → Type 0

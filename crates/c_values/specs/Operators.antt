@@ -2,7 +2,12 @@
 use Rattle.std.specs.Prelude.{◌≡◌, Option, Some, None}
 use Rattle.c_typing.specs.Types.{CType, integer}
 use Rattle.c_typing.specs.Conversions as rules
+use Rattle.c_typing.specs.Judgements.{Typing}
 use Rattle.c_type_ids.specs.Integers.{integer_of}
+use Rattle.c_type_ids.specs.Ids.{Known}
+use Rattle.c_constants.specs.Constants.{constant_of}
+use Rattle.c_values.specs.Typings.{IsType}
+use Rattle.c_values.specs.declared.operators.Operand.{Operand}
 use Rattle.c_values.specs.declared.operators.Class.{Class}
 use Rattle.c_values.specs.declared.operators.Class.TheVariants as class
 use Rattle.c_values.specs.declared.operators.Operator.{Operator}
@@ -40,3 +45,8 @@ ResultIs result.Right r t u = r ≡ Some u
 
 abbrev pub none : ResultType
 none = result.None
+
+-- it is the operand of this expression
+pub record IsOperand (k : Known) (o : Operand) (x : Typing) : Type 0 where
+  pub type : IsType k o.kind x.type
+  pub constant : constant_of o.constant ≡ x.constant

@@ -1,5 +1,5 @@
 -- Expressions as the code has them, and as the rules do.
-use Rattle.std.specs.Prelude.{◌≡◌, ℕ}
+use Rattle.std.specs.Prelude.{◌≡◌}
 use Rattle.c_typing.specs.Types.{CType, unsized}
 use Rattle.c_typing.specs.Judgements as rules
 use Rattle.c_type_ids.specs.Ids.{Known, Names, Shows}

@@ -27,12 +27,7 @@ pub fn set_local(alloc: Global, local: usize, value: Expr) -> Result<Expr, Alloc
     Ok(Expr::SetLocal(local, Boxed::new(alloc, value)?))
 }
 
-pub fn binary(
-    alloc: Global,
-    operator: COp,
-    left: Expr,
-    right: Expr,
-) -> Result<Expr, AllocError>
+pub fn binary(alloc: Global, operator: COp, left: Expr, right: Expr) -> Result<Expr, AllocError>
     ensures { IfOk result (λ e. e ≡ forms.binary operator left right) }
 {
     let left = Boxed::new(alloc, left)?;
@@ -70,12 +65,7 @@ pub fn seq(alloc: Global, left: Expr, right: Expr) -> Result<Expr, AllocError>
     Ok(Expr::Seq(left, right))
 }
 
-pub fn choose(
-    alloc: Global,
-    condition: Expr,
-    then: Expr,
-    other: Expr,
-) -> Result<Expr, AllocError>
+pub fn choose(alloc: Global, condition: Expr, then: Expr, other: Expr) -> Result<Expr, AllocError>
     ensures { IfOk result (λ e. e ≡ forms.choose condition then other) }
 {
     let condition = Boxed::new(alloc, condition)?;
@@ -84,13 +74,7 @@ pub fn choose(
     Ok(Expr::Choose(condition, then, other))
 }
 
-pub fn copy(
-    alloc: Global,
-    size: u32,
-    align: u32,
-    to: Expr,
-    from: Expr,
-) -> Result<Expr, AllocError>
+pub fn copy(alloc: Global, size: u32, align: u32, to: Expr, from: Expr) -> Result<Expr, AllocError>
     ensures { IfOk result (λ e. e ≡ forms.copy size align to from) }
 {
     let to = Boxed::new(alloc, to)?;

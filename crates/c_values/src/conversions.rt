@@ -46,11 +46,7 @@ pub fn access_of(shown: Kind) -> Access
 
 /// The value of an expression: an lvalue is read, an array is a pointer to its first element, and a struct stays at its
 /// place.
-pub fn value_of(
-    alloc: Global,
-    table: &mut TypeTable,
-    typing: Typing,
-) -> Result<Typing, AllocError>
+pub fn value_of(alloc: Global, table: &mut TypeTable, typing: Typing) -> Result<Typing, AllocError>
     requires { (y : rules.Typing) × Is table.old typing y }
     ensures is { IfOk result (λ value. (y : rules.Typing) → Is table.old typing y → Is table.new value (conversions.value_of y)) }
     ensures grows { Grows table.old table.new }
@@ -85,11 +81,7 @@ fn read(alloc: Global, table: &mut TypeTable, typing: Typing) -> Result<Typing, 
 }
 
 // An array is a pointer to its first element, which has this type.
-fn pointed(
-    table: &mut TypeTable,
-    element: TypeId,
-    typing: Typing,
-) -> Result<Typing, AllocError>
+fn pointed(table: &mut TypeTable, element: TypeId, typing: Typing) -> Result<Typing, AllocError>
     requires { IsThere table.old.table element }
     ensures is { IfOk result (λ value. (t : types.CType) (y : rules.Typing) → Names table.old element t → Is table.old typing y →
         Is table.new value (conversions.valued (types.pointer t) y.code (conversions.address_in y.constant))) }

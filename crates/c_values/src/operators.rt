@@ -1,5 +1,5 @@
 // The operators of two operands (C99 6.5.5 to 6.5.15): which operands they take, the type of the result, and its code.
-ghost use Rattle.std.specs.Prelude.{◌≡◌, List, if◌then◌else◌};
+ghost use Rattle.std.specs.Prelude.{◌≡◌, ◌&&◌, ◌||◌, List, if◌then◌else◌};
 ghost use Rattle.c_types.specs.Tables.{IsThere};
 ghost use Rattle.c_typing.specs.Types as types;
 ghost use Rattle.c_typing.specs.Types.{Layout};
@@ -7,17 +7,14 @@ ghost use Rattle.c_typing.specs.Judgements as rules;
 ghost use Rattle.c_typing.specs.Conversions as conversions;
 ghost use Rattle.c_type_ids.specs.Ids.{AreLaid, Known, Names, Shows};
 ghost use Rattle.c_type_ids.specs.Integers.{integer_of};
-ghost use Rattle.c_constants.specs.Constants.{constant_of};
 ghost use Rattle.c_values.specs.Typings.{IsType, ShownAs};
-ghost use Rattle.c_values.specs.Operators.{IsOperator, ResultIs, none};
+ghost use Rattle.c_values.specs.Operators.{IsOperand, IsOperator, ResultIs, class_of, none};
 
-use crate::codes::binary;
-use crate::conversions::{Shown, is_void, kind_of};
+use crate::conversions::{Shown, is_same, is_void, kind_of};
 use crate::typings::Type;
 use c_constants::{Constant, is_null};
 use c_type_ids::{Integer, Kind, TypeTable, common, promoted, traits_of};
-use c_types::{COp, Expr, TypeId};
-use std::alloc::{AllocError, Global};
+use c_types::{COp, TypeId};
 
 #[derive(Clone, Copy, Debug, PartialEq, Eq)]
 pub enum Class {
@@ -267,6 +264,12 @@ pub fn is_scalar(shown: Shown) -> bool
     is_integer(shown) || is_pointer(shown)
 }
 
+fn are_scalar(left: Shown, right: Shown) -> bool
+    ensures { (k : Known) (t u : types.CType) → ShownAs k left t → ShownAs k right u → result ≡ (types.is_scalar t && types.is_scalar u) }
+{
+    is_scalar(left) && is_scalar(right)
+}
+
 // A pointer to `void`.
 fn points_to_void(table: &TypeTable, shown: Shown) -> bool
     requires { (t : types.CType) × ShownAs table.now shown t }
@@ -276,4 +279,83 @@ fn points_to_void(table: &TypeTable, shown: Shown) -> bool
         Shown::Kind(Kind::Pointer(target)) => is_void(table, target),
         _ => false,
     }
+}
+
+/// The type of an operand, and what it is as a constant.
+#[derive(Clone, Copy, Debug, PartialEq, Eq)]
+pub struct Operand {
+    pub kind: Type,
+    pub constant: Constant,
+}
+
+/// The type of the result, where the operands are allowed.
+pub fn result_type(table: &TypeTable, class: Class, left: Operand, right: Operand) -> ResultType
+    requires left { (t : types.CType) × IsType table.now left.kind t }
+    requires right { (u : types.CType) × IsType table.now right.kind u }
+    ensures { (x y : rules.Typing) → IsOperand table.now left x → IsOperand table.now right y → (ls : List Layout) → AreLaid table.now ls →
+        ResultIs result (conversions.result_type ls (class_of class) x y) x.type y.type }
+{
+    let left_kind = kind_of(table, left.kind);
+    let right_kind = kind_of(table, right.kind);
+    match class {
+        Class::Multiplicative => common_type(left_kind, right_kind),
+        Class::Bitwise => common_type(left_kind, right_kind),
+        Class::Additive => sum_type(table, left_kind, right_kind),
+        Class::Subtractive => difference_type(table, left_kind, right_kind),
+        Class::Shift => shift_type(left_kind, right_kind),
+        Class::Relational => truth(are_ordered(table, left, right)),
+        Class::Equality => truth(are_equated(table, left, right)),
+        Class::AndThen => truth(are_scalar(left_kind, right_kind)),
+        Class::OrElse => truth(are_scalar(left_kind, right_kind)),
+    }
+}
+
+// Two integers, or two pointers to one type.
+fn are_ordered(table: &TypeTable, left: Operand, right: Operand) -> bool
+    requires left { (t : types.CType) × IsType table.now left.kind t }
+    requires right { (u : types.CType) × IsType table.now right.kind u }
+    ensures { (x y : rules.Typing) → IsOperand table.now left x → IsOperand table.now right y →
+        result ≡ ((types.is_integer x.type && types.is_integer y.type) || (types.is_pointer x.type && types.same x.type y.type)) }
+{
+    let left_kind = kind_of(table, left.kind);
+    let right_kind = kind_of(table, right.kind);
+    (is_integer(left_kind) && is_integer(right_kind))
+        || (is_pointer(left_kind) && is_same(table, left.kind, right.kind))
+}
+
+// Two integers, or what pointers are compared with.
+fn are_equated(table: &TypeTable, left: Operand, right: Operand) -> bool
+    requires left { (t : types.CType) × IsType table.now left.kind t }
+    requires right { (u : types.CType) × IsType table.now right.kind u }
+    ensures { (x y : rules.Typing) → IsOperand table.now left x → IsOperand table.now right y →
+        result ≡ ((types.is_integer x.type && types.is_integer y.type) || conversions.are_comparable x y) }
+{
+    let left_kind = kind_of(table, left.kind);
+    let right_kind = kind_of(table, right.kind);
+    (is_integer(left_kind) && is_integer(right_kind)) || are_comparable(table, left, right)
+}
+
+/// Two pointers to one type, a pointer and a null pointer constant, or a pointer and a `void *`.
+pub fn are_comparable(table: &TypeTable, left: Operand, right: Operand) -> bool
+    requires left { (t : types.CType) × IsType table.now left.kind t }
+    requires right { (u : types.CType) × IsType table.now right.kind u }
+    ensures { (x y : rules.Typing) → IsOperand table.now left x → IsOperand table.now right y → result ≡ conversions.are_comparable x y }
+{
+    let left_kind = kind_of(table, left.kind);
+    let right_kind = kind_of(table, right.kind);
+    let are_pointers = is_pointer(left_kind) && is_pointer(right_kind);
+    (are_pointers && are_same_or_void(table, left.kind, right.kind))
+        || (is_pointer(left_kind) && is_null(right.constant))
+        || (is_null(left.constant) && is_pointer(right_kind))
+}
+
+fn are_same_or_void(table: &TypeTable, left: Type, right: Type) -> bool
+    requires left { (t : types.CType) × IsType table.now left t }
+    requires right { (u : types.CType) × IsType table.now right u }
+    ensures { (t u : types.CType) → IsType table.now left t → IsType table.now right u →
+        result ≡ (types.same t u || conversions.points_to_void t || conversions.points_to_void u) }
+{
+    is_same(table, left, right)
+        || points_to_void(table, kind_of(table, left))
+        || points_to_void(table, kind_of(table, right))
 }
