@@ -1,0 +1,7 @@
+use Rattle.std.proofs.Common.{ap₂, ◌∙◌}
+use Rattle.c_types.specs.Forms as forms
+use Rattle.c_types.proofs.FormLaws.{binary_is}
+use Rattle.c_values.proofs.codes.binary.Goals as goal
+
+pub returns : goal.returns
+returns c = binary_is c.args.operator c.in_ok-left.left c.in_ok-right.right ∙ ap₂ (λ x y. forms.binary c.args.operator x y) (c.in_ok-left.ensures {u = tt}) (c.in_ok-right.ensures {u = tt})

@@ -1,0 +1,12 @@
+// Tests of the crates that the checker is made of.
+//
+// They call what these crates make public, and nothing else. The expected values are worked by hand.
+//
+// `nodes` has the nodes of a tree, its declarators and its scopes (`c_nodes`), `values` types by their ids, values and
+// operators (`c_type_ids`, `c_constants`, `c_values`).
+#![tactic(auto)]
+
+#[cfg(test)]
+mod nodes;
+#[cfg(test)]
+mod values;
