@@ -17,3 +17,12 @@ pub mod ShapesParents
 pub mod ShapesNames
 pub mod ShapesIdentifiers
 pub mod ShapesNodes
+pub mod MadeJudged
+pub mod MadeNodes
+pub mod MadeData
+pub mod MadeForms
+pub mod MadeParts
+pub mod MadePlaced
+pub mod MadeStatements
+pub mod MadeGroups
+pub mod MadeAround
