@@ -26,3 +26,7 @@ pub mod MadePlaced
 pub mod MadeStatements
 pub mod MadeGroups
 pub mod MadeAround
+pub mod MadeTop
+pub mod MadeFunctions
+pub mod MadeAnything
+pub mod MadeJumps

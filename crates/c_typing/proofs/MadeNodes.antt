@@ -203,3 +203,21 @@ module _ (t : Tree) where
 
   pub ascending : (n : Node) → In n all → Ascends n.kids
   ascending n h = kids_ascend n 0 (size (one t)) (one t) h
+
+  pub node_below : (x : Node) → In x all → x.id < size (one t)
+  node_below x h = let b = (bounds x 0 (size (one t)) (one t) h).to in omega (arith, b)
+
+  unfoldable pub root_node : Node
+  root_node = own 0 (size (one t)) t.label t.kids
+
+  pub root_among : In root_node all
+  unfolding root_node
+  root_among = in_back root_node (nodes_of 0 (0 + size t.kids) t.kids) (root_node ∷ []) (inl refl)
+
+  pub root_label : root_node.label ≡ t.label
+  unfolding root_node
+  root_label = refl
+
+  pub root_last : root_node.id ≡ size t.kids
+  unfolding root_node
+  root_last = omega arith

@@ -1,0 +1,16 @@
+-- What holds of each function of a unit, from what its node means.
+use Rattle.std.proofs.Common.{◌≡◌, ℕ, zero, suc, Bool, true, false, List, [], ◌∷◌, length, Option, Some, None, refl, sym, ap, ◌∙◌, subst}
+use Rattle.std.specs.Prelude.{slice_get, filter_map}
+use Rattle.std.specs.List.{AllByRecursion}
+use Rattle.c_types.specs.declared.tree.Func.{Func}
+use Rattle.c_typing.specs.Judgements.{Meaning, defines, Judgement, means, breaks_rules, waits, judgement_at}
+use Rattle.c_typing.specs.Typing.{defined_in}
+
+pub functions_good : (P : Func → Type 0) (js : List Judgement) → ((n : ℕ) (f : Func) → judgement_at js n ≡ means (defines f) → P f) → AllByRecursion P (filter_map defined_in js)
+functions_good P [] each = tt
+functions_good P (means (defines f) ∷ js) each = (each 0 f refl, functions_good P js (λ n g e. each (suc n) g e))
+functions_good P (_ ∷ js) each = functions_good P js (λ n g e. each (suc n) g e)
+
+pub functions_more : (P R : Func → Type 0) (fs : List Func) → ((f : Func) → P f → R f) → AllByRecursion P fs → AllByRecursion R fs
+functions_more P R [] each h = tt
+functions_more P R (f ∷ fs) each h = (each f h.0, functions_more P R fs each h.1)
