@@ -28,5 +28,7 @@ pub mod MadeGroups
 pub mod MadeAround
 pub mod MadeTop
 pub mod MadeFunctions
+pub mod MadeEvery
 pub mod MadeAnything
 pub mod MadeJumps
+pub mod MadeLabels

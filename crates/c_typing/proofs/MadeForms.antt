@@ -14,11 +14,12 @@ use Rattle.c_typing.specs.Statements.{case_label, default_label}
 use Rattle.c_typing.specs.Typing.{unit_node, in_parentheses, judged_by}
 use Rattle.c_typing.proofs.MadeJudged.{Yields, yields_verdict, yields_besides, yields_given}
 
--- an expression, a statement, a declarator with its initializer or a function
+-- an expression, a statement, a declarator with its initializer, a label or a function
 abbrev pub is_active : Meaning → Bool
 is_active (expresses x h) = true
 is_active (initialized t ss cs) = true
 is_active (performs ss) = true
+is_active (labels w) = true
 is_active (defines f) = true
 is_active m = false
 
@@ -39,8 +40,6 @@ is_passive_kind kind.ArrayOf = true
 is_passive_kind kind.Takes = true
 is_passive_kind kind.Param = true
 is_passive_kind kind.TypeName = true
-is_passive_kind kind.Case = true
-is_passive_kind kind.Default = true
 is_passive_kind k = false
 
 pub yields_if : (P : Meaning → Type 0) (c : Bool) (x y : Judgement) → Yields P x → Yields P y → Yields P (if c then x else y)
@@ -137,14 +136,6 @@ module _ (P : Meaning → Type 0) (free : (m : Meaning) → is_active m ≡ fals
   unfolding type_name
   type_name_row = search (yields_given, free)
 
-  case_row : Yields P (case_label p js node)
-  unfolding case_label
-  case_row = search (yields_given, yields_verdict, free)
-
-  default_row : Yields P (default_label p js node)
-  unfolding default_label
-  default_row = search (yields_verdict, free)
-
   pub passive_row : (k : SynKind) → is_passive_kind k ≡ true → Yields P (judged_by p js node k)
   unfolding judged_by
   passive_row kind.Unit e = unit_row
@@ -162,11 +153,18 @@ module _ (P : Meaning → Type 0) (free : (m : Meaning) → is_active m ≡ fals
   passive_row kind.Takes e = takes_row
   passive_row kind.Param e = parameter_row
   passive_row kind.TypeName e = type_name_row
-  passive_row kind.Case e = case_row
-  passive_row kind.Default e = default_row
   passive_row k e = absurd (true≢false (sym e))
 
   -- parentheses: of an expression, or of a declarator
   pub paren_row : (o : Option Typing) → ((x : Typing) → o ≡ Some x → P (expression x)) → Yields P (in_parentheses p js node o)
   paren_row (Some x) h = h x refl
   paren_row None h = search (yields_given, declarator_row)
+
+-- labels
+pub case_row : (P : Meaning → Type 0) → ((w : Option ℕ) → P (labels w)) → (p : Places) (js : List Judgement) (node : Node) → Yields P (case_label p js node)
+unfolding case_label
+case_row P each p js node = search (yields_given, yields_verdict, each)
+
+pub default_row : (P : Meaning → Type 0) → ((w : Option ℕ) → P (labels w)) → (p : Places) (js : List Judgement) (node : Node) → Yields P (default_label p js node)
+unfolding default_label
+default_row P each p js node = search (yields_verdict, each)

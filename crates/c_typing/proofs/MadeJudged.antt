@@ -79,12 +79,16 @@ module _ (p : Places) where
 
 -- ---- all nodes
 
+-- these are the first judgements
+abbrev pub IsFront : Places → List Judgement → Type 0
+IsFront p js = (more : List Judgement) × (judgements_at p ≡ js ++ more)
+
 module _ (p : Places) (G : ℕ → Meaning → Type 0) where
   abbrev pub Known : List Judgement → Type 0
   Known js = (k : ℕ) (m : Meaning) → judgement_at js k ≡ means m → G k m
 
   abbrev pub Step : Type 0
-  Step = (js : List Judgement) (node : Node) → slice_get p.nodes (length js) ≡ Some node → Known js → Yields (G (length js)) (judged_by p js node node.label.kind)
+  Step = (js : List Judgement) (node : Node) → slice_get p.nodes (length js) ≡ Some node → IsFront p js → Known js → Yields (G (length js)) (judged_by p js node node.label.kind)
 
   known_longer : (js : List Judgement) (j : Judgement) → Known js → Yields (G (length js)) j → Known (js ++ j ∷ [])
   known_longer js j known own k m e = by (longer js j k m e)
@@ -94,19 +98,20 @@ module _ (p : Places) (G : ℕ → Meaning → Type 0) where
       by (inr h) = subst (λ i. G i m) (sym h.0) (yielded (G (length js)) j m h.1 own)
 
   known_from : Step → (js : List Judgement) (ns : List Node) → ((i : ℕ) (node : Node) → slice_get ns i ≡ Some node → slice_get p.nodes (length js + i) ≡ Some node)
-      → Known js → Known (judged_from p js ns)
+      → judgements_at p ≡ judged_from p js ns → Known js → Known (judged_from p js ns)
   unfolding judged_from
-  known_from step js [] at known = known
-  known_from step js (node ∷ rest) at known =
+  known_from step js [] at whole known = known
+  known_from step js (node ∷ rest) at whole known =
       let j = judged_by p js node node.label.kind in
+      let more = extended p js (node ∷ rest) in
       let first : slice_get p.nodes (length js) ≡ Some node = subst (λ i. slice_get p.nodes i ≡ Some node) (omega arith) (at 0 node refl) in
       let long : length (js ++ j ∷ []) ≡ length js + 1 = length-append js (j ∷ []) in
       known_from step (js ++ j ∷ []) rest
       (λ i n e. subst (λ k. slice_get p.nodes k ≡ Some n) (omega (arith, long)) (at (suc i) n e))
-      (known_longer js j known (step js node first known))
+      whole (known_longer js j known (step js node first (more.0, whole ∙ more.1) known))
 
   pub all_known : Step → Known (judgements_at p)
-  all_known step = known_from step [] p.nodes (λ i node e. subst (λ k. slice_get p.nodes k ≡ Some node) (omega arith) e) (λ k m e. absurd (cc e))
+  all_known step = known_from step [] p.nodes (λ i node e. subst (λ k. slice_get p.nodes k ≡ Some node) (omega arith) e) refl (λ k m e. absurd (cc e))
 
 -- ---- no faults
 
@@ -120,3 +125,15 @@ no_faults_in (breaks_rules f fs ∷ front) j back e = absurd (cc e)
 
 pub no_fault_of : (p : Places) (n : ℕ) (node : Node) (s : Stands p n node) → faults_of (judgements_at p) ≡ [] → faults_in (judged_by p s.front node node.label.kind) ≡ []
 no_fault_of p n node s e = no_faults_in s.front (judged_by p s.front node node.label.kind) s.back (ap faults_of (sym s.are) ∙ e)
+
+-- ---- fronts
+
+pub front_at : (js more : List Judgement) (k : ℕ) → k < length js → judgement_at (js ++ more) k ≡ judgement_at js k
+front_at [] more k lt = absurd (omega (arith, lt))
+front_at (j ∷ js) more zero lt = refl
+front_at (j ∷ js) more (suc k) lt = front_at js more k (omega (arith, lt))
+
+pub meant_later : (js more : List Judgement) (k : ℕ) (m : Meaning) → judgement_at js k ≡ means m → judgement_at (js ++ more) k ≡ means m
+meant_later [] more k m e = absurd (cc e)
+meant_later (j ∷ js) more zero m e = e
+meant_later (j ∷ js) more (suc k) m e = meant_later js more k m e

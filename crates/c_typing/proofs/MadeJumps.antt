@@ -17,13 +17,13 @@ use Rattle.c_types.specs.WellMade.{JumpsEnd, JumpsEndIn, JumpsEndOf}
 use Rattle.c_typing.specs.Types.{CType}
 use Rattle.c_typing.specs.Places.{Node, nodes, kid, kind_at, other_kids, is_loop, is_switch}
 use Rattle.c_typing.specs.Names.{Places, places, is_declaration}
-use Rattle.c_typing.specs.Judgements.{Meaning, expresses, initialized, performs, defines, Judgement, means, Typing, given, judgement_at, typing_at, type_at, code_at, all_of}
+use Rattle.c_typing.specs.Judgements.{Meaning, expresses, initialized, performs, labels, defines, Judgement, means, Typing, given, judgement_at, typing_at, type_at, code_at, all_of}
 use Rattle.c_typing.specs.Conversions.{value_of}
 use Rattle.c_typing.specs.Statements.{does, as_one, block_of, Item, a_label, a_statement, item_at, groups_of, switch_statement}
 use Rattle.c_typing.specs.Typing.{function_node, judged_by, judgements_at, defined_in}
 use Rattle.c_typing.proofs.MadeJudged.{Yields, yields_verdict, yields_besides, yields_given, Known}
 use Rattle.c_typing.proofs.MadeNodes.{In}
-use Rattle.c_typing.proofs.MadeForms.{is_active}
+use Rattle.c_typing.proofs.MadeForms.{is_active, case_row, default_row}
 use Rattle.c_typing.proofs.MadeParts.{least_kids, in_others, code_meant, all_parts}
 use Rattle.c_typing.proofs.MadePlaced.{kid_in, node_there}
 use Rattle.c_typing.proofs.MadeAround.{Surrounding, inside, surrounding, around_parent, inside_outer, inside_so}
@@ -54,7 +54,7 @@ mutual
 
   jumps_more_of : (a c : Bool) → (a ≡ true → c ≡ true) → {n : Count} (gs : GroupRow n) → JumpsEndOf a gs → JumpsEndOf c gs
   jumps_more_of a c f no_groups h = tt
-  jumps_more_of a c f (a_group labels other n body gs) h = (jumps_more_in a true c true f (λ e. refl) body h.0, jumps_more_of a c f gs h.1)
+  jumps_more_of a c f (a_group words other n body gs) h = (jumps_more_in a true c true f (λ e. refl) body h.0, jumps_more_of a c f gs h.1)
 
 all_in : (a b : Bool) (ss : List Stmt) → AllByRecursion (JumpsEnd a b) ss → JumpsEndIn a b (stmt_row ss)
 all_in a b [] h = tt
@@ -83,6 +83,9 @@ module _ (tokens : List Token) (t : Tree) (derived : IsTreeOf tokens t) where
   abbrev Any : ℕ → Expr → Type 0
   Any n e = Unit {0}
 
+  abbrev AnyLabel : ℕ → Option ℕ → Type 0
+  AnyLabel n w = Unit {0}
+
   abbrev AnyTyping : ℕ → Typing → ℕ → Type 0
   AnyTyping n x h = Unit {0}
 
@@ -104,7 +107,7 @@ module _ (tokens : List Token) (t : Tree) (derived : IsTreeOf tokens t) where
   -- ---- `switch`
 
   item_good : (n k : ℕ) (js : List Judgement) (node : Node) → slice_get (nodes t) n ≡ Some node → node.label.kind ≡ kind.Switch → In k node.kids
-      → Known (places t) (Good t AnyTyping Any Ends Free Whole) js → (i : Item) → item_at js k ≡ Some i → ItemGood (JumpsEnd (in_loop n) true) i
+      → Known (places t) (Good t AnyTyping Any Ends Free Whole AnyLabel) js → (i : Item) → item_at js k ≡ Some i → ItemGood (JumpsEnd (in_loop n) true) i
   unfolding in_loop in_either
   item_good n k js node there e h known i g = by i (item_meant js k i (judgement_at js k) refl g)
     where
@@ -122,15 +125,15 @@ module _ (tokens : List Token) (t : Tree) (derived : IsTreeOf tokens t) where
       true≢false (sym g ∙ (ap is_declaration (ap (λ (m : Node). m.label.kind) (node_there tokens t derived n node there) ∙ e) ∙ f))
 
   switch_end : (js : List Judgement) (node : Node) → slice_get (nodes t) (length js) ≡ Some node → node.label.kind ≡ kind.Switch
-      → Known (places t) (Good t AnyTyping Any Ends Free Whole) js → (x : Typing) (items : List Item) → all_of (map (item_at js) (other_kids node)) ≡ Some items
-      → Good t AnyTyping Any Ends Free Whole (length js) (does (switch (value_of x).code (length_of (groups_of items).groups) (group_row (groups_of items).groups)))
+      → Known (places t) (Good t AnyTyping Any Ends Free Whole AnyLabel) js → (x : Typing) (items : List Item) → all_of (map (item_at js) (other_kids node)) ≡ Some items
+      → Good t AnyTyping Any Ends Free Whole AnyLabel (length js) (does (switch (value_of x).code (length_of (groups_of items).groups) (group_row (groups_of items).groups)))
   switch_end js node there e known x items g =
       ((all_of_groups (in_loop (length js)) (groups_of items).groups (bodies_good (JumpsEnd (in_loop (length js)) true) items
       (all_parts (item_at js) (ItemGood (JumpsEnd (in_loop (length js)) true)) (other_kids node) items
       (λ k i h m. item_good (length js) k js node there e (in_others node k h) known i m) g)), tt), λ d. absurd (not_declared (length js) node there kind.Switch e refl d))
 
   switch_row : (js : List Judgement) (node : Node) → slice_get (nodes t) (length js) ≡ Some node → node.label.kind ≡ kind.Switch
-      → Known (places t) (Good t AnyTyping Any Ends Free Whole) js → Yields (Good t AnyTyping Any Ends Free Whole (length js)) (switch_statement js node)
+      → Known (places t) (Good t AnyTyping Any Ends Free Whole AnyLabel) js → Yields (Good t AnyTyping Any Ends Free Whole AnyLabel (length js)) (switch_statement js node)
   unfolding switch_statement
   switch_row js node there e known = search (yields_given, yields_besides, switch_end)
 
@@ -155,27 +158,28 @@ module _ (tokens : List Token) (t : Tree) (derived : IsTreeOf tokens t) where
           by (inr s) = true≢false (sym s.passes ∙ (ap test (around_function tokens t derived n node s.node there e s.among s.from s.to) ∙ u))
 
   function_end : (js : List Judgement) (node : Node) → slice_get (nodes t) (length js) ≡ Some node → node.label.kind ≡ kind.Function
-      → Known (places t) (Good t AnyTyping Any Ends Free Whole) js → (ss : List Stmt) → code_at js (kid node 2) ≡ Some ss → JumpsEnd false false (as_one ss)
+      → Known (places t) (Good t AnyTyping Any Ends Free Whole AnyLabel) js → (ss : List Stmt) → code_at js (kid node 2) ≡ Some ss → JumpsEnd false false (as_one ss)
   function_end js node there e known ss g = body_good (length js) node there e ss (known (kid node 2) (performs ss) (code_meant (judgement_at js (kid node 2)) ss g)).0
 
   function_row : (js : List Judgement) (node : Node) → slice_get (nodes t) (length js) ≡ Some node → node.label.kind ≡ kind.Function
-      → Known (places t) (Good t AnyTyping Any Ends Free Whole) js → Yields (Good t AnyTyping Any Ends Free Whole (length js)) (function_node (places t) js node)
+      → Known (places t) (Good t AnyTyping Any Ends Free Whole AnyLabel) js → Yields (Good t AnyTyping Any Ends Free Whole AnyLabel (length js)) (function_node (places t) js node)
   unfolding function_node
   function_row js node there e known = search (yields_given, function_end)
 
   -- ---- all of it
 
-  free : (n : ℕ) (m : Meaning) → is_active m ≡ false → Good t AnyTyping Any Ends Free Whole n m
+  free : (n : ℕ) (m : Meaning) → is_active m ≡ false → Good t AnyTyping Any Ends Free Whole AnyLabel n m
   free n (expresses x h) e = tt
   free n (performs ss) e = absurd (true≢false e)
   free n (initialized u ss cs) e = absurd (true≢false e)
   free n (defines f) e = absurd (true≢false e)
+  free n (labels w) e = tt
   free n _ e = tt
 
   plain_block : (n : ℕ) (ss : List Stmt) → AllByRecursion (Free n) ss → Free n (block_of ss)
   plain_block n ss h a b = free_block ss h a b
 
-  closes : Closes t AnyTyping Any Ends Free Whole
+  closes : Closes t AnyTyping Any Ends Free Whole AnyLabel
   unfolding in_loop in_either
   closes = record {
     value = λ n x h g. tt;
@@ -195,10 +199,12 @@ module _ (tokens : List Token) (t : Tree) (derived : IsTreeOf tokens t) where
     looped_first = λ n k node e s there f i g q. jumps_more (in_loop k) (in_either k) true true (λ x. refl) (λ x. refl) s q;
     broken = λ n node there e h. inside_so ends_jumps t tokens derived n node there (ap ends_jumps e) h;
     continued = λ n node there e h. inside_so is_loop t tokens derived n node there (ap is_loop e) h;
-    switched = switch_row;
-    function = function_row;
-    expression = λ js node there e known. any_row (Good t AnyTyping Any Ends Free Whole (length js)) (free (length js)) (λ x h. tt) (places t) js node node.label.kind e;
+    switched = λ js node there front e known. switch_row js node there e known;
+    labelled = λ js node there front e. case_row (Good t AnyTyping Any Ends Free Whole AnyLabel (length js)) (λ w. tt) (places t) js node;
+    otherwise = λ js node there front e. default_row (Good t AnyTyping Any Ends Free Whole AnyLabel (length js)) (λ w. tt) (places t) js node;
+    function = λ js node there front e known. function_row js node there e known;
+    expression = λ js node there front e known. any_row (Good t AnyTyping Any Ends Free Whole AnyLabel (length js)) (free (length js)) (λ x h. tt) (places t) js node node.label.kind e;
   }
 
   pub jumps_end : AllByRecursion (λ (f : Func). JumpsEnd false false f.body) (filter_map defined_in (judgements_at (places t)))
-  jumps_end = functions_good (λ (f : Func). JumpsEnd false false f.body) (judgements_at (places t)) (λ n f e. all_good t AnyTyping Any Ends Free Whole tokens derived closes n (defines f) e)
+  jumps_end = functions_good (λ (f : Func). JumpsEnd false false f.body) (judgements_at (places t)) (λ n f e. all_good t AnyTyping Any Ends Free Whole AnyLabel tokens derived closes n (defines f) e)

@@ -151,7 +151,7 @@ initialized_meant _ ss e = absurd (cc e)
 -- ---- several parts
 
 module _ {A B : Type 0} (f : A → Option B) (P : B → Type 0) where
-  before_split : (b : B) (o : Option (List B)) (bs : List B) → before b o ≡ Some bs → (rest : List B) × (o ≡ Some rest) × (bs ≡ b ∷ rest)
+  pub before_split : (b : B) (o : Option (List B)) (bs : List B) → before b o ≡ Some bs → (rest : List B) × (o ≡ Some rest) × (bs ≡ b ∷ rest)
   before_split b None bs e = absurd (cc e)
   before_split b (Some rest) bs e = (rest, refl, cc e)
 

@@ -14,13 +14,13 @@ use Rattle.c_types.specs.Forms.{set_local, drop_expr, unset, return_with, if_els
 use Rattle.c_typing.specs.Types.{CType}
 use Rattle.c_typing.specs.Places.{Node, nodes, node_at, kind_at, kid, has_kid, other_kids, is_loop, is_switch, is_braces, nowhere}
 use Rattle.c_typing.specs.Names.{Places, places, Name, Entity, automatic, name_of, local_number, is_declaration}
-use Rattle.c_typing.specs.Judgements.{Meaning, expresses, initialized, performs, defines, Judgement, means, Typing, Fault, given, verdict, judgement_at, typing_at, type_at, code_at, all_of}
+use Rattle.c_typing.specs.Judgements.{Meaning, expresses, initialized, performs, labels, defines, Judgement, means, Typing, Fault, given, verdict, judgement_at, typing_at, type_at, code_at, all_of}
 use Rattle.c_typing.specs.Conversions.{value_of, converted_to, converted_code}
 use Rattle.c_typing.specs.Rules.{outside_a_loop, bad_initializer}
 use Rattle.c_typing.specs.Initializers.{Part, sole_value, initial_code, object_code, bare_code, is_object, initialized_object, init_by, init_declarator}
-use Rattle.c_typing.specs.Statements.{does, as_one, block_of, statement_at, declaration, declarator_code, block_node, expression_statement, empty_statement, if_statement, while_statement, do_statement, part_by, for_part, code_in, first_by, for_statement, is_inside, break_statement, continue_statement, return_by, return_statement, switch_statement}
+use Rattle.c_typing.specs.Statements.{does, as_one, block_of, statement_at, declaration, declarator_code, block_node, expression_statement, empty_statement, if_statement, while_statement, do_statement, part_by, for_part, code_in, first_by, for_statement, is_inside, break_statement, continue_statement, return_by, return_statement, switch_statement, case_label, default_label}
 use Rattle.c_typing.specs.Typing.{function_node, judged_by, judgements_at}
-use Rattle.c_typing.proofs.MadeJudged.{Yields, yields_verdict, yields_besides, yields_given, Known, Step, all_known}
+use Rattle.c_typing.proofs.MadeJudged.{Yields, yields_verdict, yields_besides, yields_given, IsFront, Known, Step, all_known}
 use Rattle.c_typing.proofs.MadeNodes.{In}
 use Rattle.c_typing.proofs.MadeForms.{is_active, is_passive_kind, yields_if, yields_if_so, passive_row}
 use Rattle.c_typing.proofs.MadeParts.{least_kids, in_kids_where, in_others, typing_meant, code_meant, statement_meant, initialized_meant, all_parts, all_joined}
@@ -67,13 +67,14 @@ is_code_kind k = is_expression_kind k
 abbrev pub ends_jumps : SynKind → Bool
 ends_jumps k = is_loop k || is_switch k
 
--- what is said of expressions by their nodes, of values, of statements, of statements without jumps, and of functions
-module _ (t : Tree) (X : ℕ → Typing → ℕ → Type 0) (V : ℕ → Expr → Type 0) (S Q : ℕ → Stmt → Type 0) (D : ℕ → Func → Type 0) where
+-- what is said of expressions by their nodes, of values, of statements, of statements without jumps, of functions and of labels
+module _ (t : Tree) (X : ℕ → Typing → ℕ → Type 0) (V : ℕ → Expr → Type 0) (S Q : ℕ → Stmt → Type 0) (D : ℕ → Func → Type 0) (L : ℕ → Option ℕ → Type 0) where
   abbrev pub Good : ℕ → Meaning → Type 0
   Good n (expresses x h) = X n x h
   Good n (performs ss) = AllByRecursion (S n) ss × (is_declaration (kind_at (nodes t) n) ≡ true → AllByRecursion (Q n) ss)
   Good n (initialized u ss cs) = AllByRecursion (Q n) ss
   Good n (defines f) = D n f
+  Good n (labels w) = L n w
   Good n m = Unit {0}
 
   abbrev pub OptionGood : ℕ → Option Expr → Type 0
@@ -98,11 +99,13 @@ module _ (t : Tree) (X : ℕ → Typing → ℕ → Type 0) (V : ℕ → Expr �
     pub looped_first : (n k : ℕ) (node : Node) (e : Expr) (s : Stmt) → slice_get (nodes t) n ≡ Some node → is_loop node.label.kind ≡ true → In k node.kids → V n e → S k s → S n (do_loop s e)
     pub broken : (n : ℕ) (node : Node) → slice_get (nodes t) n ≡ Some node → node.label.kind ≡ kind.Break → is_inside (λ k. is_loop k || is_switch k) (places t) node ≡ true → S n break
     pub continued : (n : ℕ) (node : Node) → slice_get (nodes t) n ≡ Some node → node.label.kind ≡ kind.Continue → is_inside is_loop (places t) node ≡ true → S n continue
-    pub switched : (js : List Judgement) (node : Node) → slice_get (nodes t) (length js) ≡ Some node → node.label.kind ≡ kind.Switch → Known (places t) Good js → Yields (Good (length js)) (switch_statement js node)
-    pub function : (js : List Judgement) (node : Node) → slice_get (nodes t) (length js) ≡ Some node → node.label.kind ≡ kind.Function → Known (places t) Good js → Yields (Good (length js)) (function_node (places t) js node)
-    pub expression : (js : List Judgement) (node : Node) → slice_get (nodes t) (length js) ≡ Some node → is_expression_kind node.label.kind ≡ true → Known (places t) Good js → Yields (Good (length js)) (judged_by (places t) js node node.label.kind)
+    pub switched : (js : List Judgement) (node : Node) → slice_get (nodes t) (length js) ≡ Some node → IsFront (places t) js → node.label.kind ≡ kind.Switch → Known (places t) Good js → Yields (Good (length js)) (switch_statement js node)
+    pub labelled : (js : List Judgement) (node : Node) → slice_get (nodes t) (length js) ≡ Some node → IsFront (places t) js → node.label.kind ≡ kind.Case → Yields (Good (length js)) (case_label (places t) js node)
+    pub otherwise : (js : List Judgement) (node : Node) → slice_get (nodes t) (length js) ≡ Some node → IsFront (places t) js → node.label.kind ≡ kind.Default → Yields (Good (length js)) (default_label (places t) js node)
+    pub function : (js : List Judgement) (node : Node) → slice_get (nodes t) (length js) ≡ Some node → IsFront (places t) js → node.label.kind ≡ kind.Function → Known (places t) Good js → Yields (Good (length js)) (function_node (places t) js node)
+    pub expression : (js : List Judgement) (node : Node) → slice_get (nodes t) (length js) ≡ Some node → IsFront (places t) js → is_expression_kind node.label.kind ≡ true → Known (places t) Good js → Yields (Good (length js)) (judged_by (places t) js node node.label.kind)
 
-  module _ (tokens : List Token) (derived : IsTreeOf tokens t) (c : Closes) (js : List Judgement) (node : Node) (there : slice_get (nodes t) (length js) ≡ Some node) (known : Known (places t) Good js) where
+  module _ (tokens : List Token) (derived : IsTreeOf tokens t) (c : Closes) (js : List Judgement) (node : Node) (there : slice_get (nodes t) (length js) ≡ Some node) (front : IsFront (places t) js) (known : Known (places t) Good js) where
     n : ℕ
     n = length js
 
@@ -369,17 +372,20 @@ module _ (t : Tree) (X : ℕ → Typing → ℕ → Type 0) (V : ℕ → Expr �
     free (performs ss) e = absurd (true≢false e)
     free (initialized u ss cs) e = absurd (true≢false e)
     free (defines f) e = absurd (true≢false e)
+    free (labels w) e = absurd (true≢false e)
     free _ e = tt
 
     other_row : (k : SynKind) → node.label.kind ≡ k → (b : Bool) → is_expression_kind k ≡ b → b || is_passive_kind k ≡ true → Yields (Good (length js)) (judged_by (places t) js node k)
-    other_row k e true f h = subst (λ i. Yields (Good (length js)) (judged_by (places t) js node i)) e (c.expression js node there (ap is_expression_kind e ∙ f) known)
+    other_row k e true f h = subst (λ i. Yields (Good (length js)) (judged_by (places t) js node i)) e (c.expression js node there front (ap is_expression_kind e ∙ f) known)
     other_row k e false f h = passive_row (Good (length js)) free (places t) js node k h
 
     row : (k : SynKind) → node.label.kind ≡ k → Yields (Good (length js)) (judged_by (places t) js node k)
     unfolding judged_by
     row kind.Declaration e = declaration_row e
     row kind.InitDecl e = init_row e
-    row kind.Function e = c.function js node there e known
+    row kind.Function e = c.function js node there front e known
+    row kind.Case e = c.labelled js node there front e
+    row kind.Default e = c.otherwise js node there front e
     row kind.Block e = block_row e
     row kind.ExprStmt e = expression_row e
     row kind.Empty e = empty_row e
@@ -390,8 +396,8 @@ module _ (t : Tree) (X : ℕ → Typing → ℕ → Type 0) (V : ℕ → Expr �
     row kind.Break e = break_row e
     row kind.Continue e = continue_row e
     row kind.Return e = return_row e
-    row kind.Switch e = c.switched js node there e known
+    row kind.Switch e = c.switched js node there front e known
     row k e = other_row k e (is_expression_kind k) refl refl
 
   pub all_good : (tokens : List Token) → IsTreeOf tokens t → Closes → Known (places t) Good (judgements_at (places t))
-  all_good tokens derived c = all_known (places t) Good (λ js node there known. row tokens derived c js node there known node.label.kind refl)
+  all_good tokens derived c = all_known (places t) Good (λ js node there front known. row tokens derived c js node there front known node.label.kind refl)
