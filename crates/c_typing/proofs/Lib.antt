@@ -32,3 +32,5 @@ pub mod MadeEvery
 pub mod MadeAnything
 pub mod MadeJumps
 pub mod MadeLabels
+pub mod MadeOthers
+pub mod MadeSizes

@@ -1,35 +1,36 @@
 -- The forms of meanings by kinds of nodes: what is neither an expression nor acts.
 use Rattle.std.proofs.Common.{◌≡◌, ℕ, zero, suc, Bool, true, false, List, [], ◌∷◌, ◌++◌, Option, Some, None, refl, sym, true≢false}
-use Rattle.std.specs.Prelude.{if◌then◌else◌}
+use Rattle.std.specs.Prelude.{if◌then◌else◌, flat_map}
 use Rattle.c_syntax.specs.declared.kind.SynKind.{SynKind}
 use Rattle.c_syntax.specs.declared.kind.SynKind.TheVariants as kind
-use Rattle.c_typing.specs.Types.{CType}
+use Rattle.c_types.specs.declared.tree.Cell.{Cell}
+use Rattle.c_typing.specs.Types.{CType, Field}
 use Rattle.c_typing.specs.Places.{Node, is_whole, parent_of, specs_of, kid}
 use Rattle.c_typing.specs.Names.{Places, Name}
-use Rattle.c_typing.specs.Judgements.{Meaning, itself, a_type, a_struct, members, enumerates, steps, declares, expresses, fills_array, initial, initialized, performs, labels, defines, Judgement, means, verdict, given, Fault, PlacedStep, Typing, typing_at, steps_at}
+use Rattle.c_typing.specs.Judgements.{Meaning, itself, a_type, a_struct, members, enumerates, steps, declares, expresses, fills_array, initial, initialized, performs, labels, defines, Judgement, means, verdict, given, Fault, PlacedStep, Typing, typing_at, steps_at, layouts}
 use Rattle.c_typing.specs.Expressions.{expression}
-use Rattle.c_typing.specs.Declarators.{enum_specifier, spec_word, typedef_type, specs, struct_specifier, struct_body, enumerator_node, enumerator_after, enumerator_value, Built, built, whole_type, declarator, pointer_declarator, absent_length_step, length_step, length_faults, array_declarator, function_declarator, member, parameter_node, type_name}
+use Rattle.c_typing.specs.Declarators.{enum_specifier, spec_word, typedef_type, specs, struct_specifier, struct_body, layout, enumerator_node, enumerator_after, enumerator_value, Built, built, whole_type, declarator, pointer_declarator, absent_length_step, length_step, length_faults, array_declarator, function_declarator, member, parameter_node, type_name}
 use Rattle.c_typing.specs.Initializers.{braces, braces_for}
 use Rattle.c_typing.specs.Statements.{case_label, default_label}
 use Rattle.c_typing.specs.Typing.{unit_node, in_parentheses, judged_by}
 use Rattle.c_typing.proofs.MadeJudged.{Yields, yields_verdict, yields_besides, yields_given}
 
--- an expression, a statement, a declarator with its initializer, a label or a function
+-- an expression, a statement, a declarator with its initializer, a label, a function, a struct with its body or a braced initializer
 abbrev pub is_active : Meaning → Bool
 is_active (expresses x h) = true
 is_active (initialized t ss cs) = true
 is_active (performs ss) = true
 is_active (labels w) = true
+is_active (a_struct l) = true
+is_active (initial n cs) = true
 is_active (defines f) = true
 is_active m = false
 
 -- the kinds of nodes that mean such
 abbrev pub is_passive_kind : SynKind → Bool
 is_passive_kind kind.Unit = true
-is_passive_kind kind.Braces = true
 is_passive_kind kind.Specs = true
 is_passive_kind kind.Word = true
-is_passive_kind kind.StructSpec = true
 is_passive_kind kind.Member = true
 is_passive_kind kind.EnumSpec = true
 is_passive_kind kind.Enumer = true
@@ -67,14 +68,6 @@ module _ (P : Meaning → Type 0) (free : (m : Meaning) → is_active m ≡ fals
   unfolding unit_node
   unit_row = search (yields_verdict, free)
 
-  braces_for_row : (t : CType) → Yields P (braces_for p js node t)
-  unfolding braces_for
-  braces_for_row t = search (yields_besides, yields_given, yields_verdict, free)
-
-  braces_row : Yields P (braces p js node)
-  unfolding braces
-  braces_row = search (yields_if, yields_given, braces_for_row, free)
-
   specs_row : Yields P (specs p js node)
   unfolding specs
   specs_row = search (yields_besides, yields_given, yields_verdict, free)
@@ -82,10 +75,6 @@ module _ (P : Meaning → Type 0) (free : (m : Meaning) → is_active m ≡ fals
   word_row : Yields P (spec_word p js node)
   unfolding spec_word typedef_type
   word_row = search (yields_if, yields_given, free)
-
-  struct_row : Yields P (struct_specifier p js node)
-  unfolding struct_specifier struct_body
-  struct_row = search (yields_if, yields_besides, yields_given, yields_verdict, free)
 
   member_row : Yields P (member p js node)
   unfolding member
@@ -139,10 +128,8 @@ module _ (P : Meaning → Type 0) (free : (m : Meaning) → is_active m ≡ fals
   pub passive_row : (k : SynKind) → is_passive_kind k ≡ true → Yields P (judged_by p js node k)
   unfolding judged_by
   passive_row kind.Unit e = unit_row
-  passive_row kind.Braces e = braces_row
   passive_row kind.Specs e = specs_row
   passive_row kind.Word e = word_row
-  passive_row kind.StructSpec e = struct_row
   passive_row kind.Member e = member_row
   passive_row kind.EnumSpec e = enum_row
   passive_row kind.Enumer e = enumerator_row
@@ -168,3 +155,19 @@ case_row P each p js node = search (yields_given, yields_verdict, each)
 pub default_row : (P : Meaning → Type 0) → ((w : Option ℕ) → P (labels w)) → (p : Places) (js : List Judgement) (node : Node) → Yields P (default_label p js node)
 unfolding default_label
 default_row P each p js node = search (yields_verdict, each)
+
+-- braced initializers
+braces_for_row : (P : Meaning → Type 0) → ((n : ℕ) (cs : List Cell) → P (initial n cs)) → (p : Places) (js : List Judgement) (node : Node) (t : CType) → Yields P (braces_for p js node t)
+unfolding braces_for
+braces_for_row P each p js node t = search (yields_besides, yields_given, yields_verdict, each)
+
+pub braces_row : (P : Meaning → Type 0) → ((n : ℕ) (cs : List Cell) → P (initial n cs)) → (p : Places) (js : List Judgement) (node : Node) → Yields P (braces p js node)
+unfolding braces
+braces_row P each p js node =
+    let by = braces_for_row P each p js node in
+    search (yields_if, yields_given, by, each)
+
+-- structs, with their bodies or without
+pub struct_row : (p : Places) (js : List Judgement) (node : Node) (P : Meaning → Type 0) → ((fields : List (List Field)) (k : ℕ) → P (a_struct (layout (layouts js) k (flat_map (λ fs. fs) fields)))) → ((t : CType) → P (a_type t)) → Yields P (struct_specifier p js node)
+unfolding struct_specifier struct_body
+struct_row p js node P body named = search (yields_if, yields_besides, yields_given, yields_verdict, body, named)

@@ -22,7 +22,7 @@ use Rattle.c_typing.specs.Statements.{does, as_one, block_of, statement_at, decl
 use Rattle.c_typing.specs.Typing.{function_node, judged_by, judgements_at}
 use Rattle.c_typing.proofs.MadeJudged.{Yields, yields_verdict, yields_besides, yields_given, IsFront, Known, Step, all_known}
 use Rattle.c_typing.proofs.MadeNodes.{In}
-use Rattle.c_typing.proofs.MadeForms.{is_active, is_passive_kind, yields_if, yields_if_so, passive_row}
+use Rattle.c_typing.proofs.MadeForms.{is_active, is_passive_kind, yields_if, yields_if_so, passive_row, braces_row, struct_row}
 use Rattle.c_typing.proofs.MadeParts.{least_kids, in_kids_where, in_others, typing_meant, code_meant, statement_meant, initialized_meant, all_parts, all_joined}
 use Rattle.c_typing.proofs.MadePlaced.{node_there, kid_found, kid_in}
 
@@ -384,6 +384,8 @@ module _ (t : Tree) (X : ℕ → Typing → ℕ → Type 0) (V : ℕ → Expr �
     row kind.Declaration e = declaration_row e
     row kind.InitDecl e = init_row e
     row kind.Function e = c.function js node there front e known
+    row kind.Braces e = braces_row (Good (length js)) (λ m cs. tt) (places t) js node
+    row kind.StructSpec e = struct_row (places t) js node (Good (length js)) (λ fs k. tt) (λ u. tt)
     row kind.Case e = c.labelled js node there front e
     row kind.Default e = c.otherwise js node there front e
     row kind.Block e = block_row e

@@ -1,0 +1,125 @@
+-- What holds of all that statements, labels and functions mean holds of the meanings of their nodes.
+use Rattle.std.proofs.Common.{◌≡◌, ℕ, Bool, true, false, cond, List, [], ◌∷◌, Option, Some, None, refl, sym, true≢false}
+use Rattle.c_syntax.specs.declared.kind.SynKind.{SynKind}
+use Rattle.c_syntax.specs.declared.kind.SynKind.TheVariants as kind
+use Rattle.c_types.specs.declared.tree.Stmt.{Stmt}
+use Rattle.c_types.specs.declared.tree.Cell.{Cell}
+use Rattle.c_types.specs.declared.tree.Func.{Func}
+use Rattle.c_typing.specs.Types.{CType}
+use Rattle.c_typing.specs.Places.{Node, kid}
+use Rattle.c_typing.specs.Names.{Places, Name}
+use Rattle.c_typing.specs.Judgements.{Meaning, performs, initialized, labels, defines, Judgement, means}
+use Rattle.c_typing.specs.Initializers.{Part, initialized_object, init_by, init_declarator}
+use Rattle.c_typing.specs.Statements.{declaration, block_node, expression_statement, if_statement, while_statement, do_statement, for_statement, break_statement, continue_statement, return_by, return_statement, switch_statement, case_label, default_label}
+use Rattle.c_typing.specs.Typing.{function_node, judged_by}
+use Rattle.c_typing.proofs.MadeJudged.{Yields, yields_verdict, yields_besides, yields_given}
+use Rattle.c_typing.proofs.MadeForms.{yields_if, case_row, default_row}
+
+abbrev pub is_statement_kind : SynKind → Bool
+is_statement_kind kind.Function = true
+is_statement_kind kind.Declaration = true
+is_statement_kind kind.InitDecl = true
+is_statement_kind kind.Block = true
+is_statement_kind kind.ExprStmt = true
+is_statement_kind kind.Empty = true
+is_statement_kind kind.If = true
+is_statement_kind kind.While = true
+is_statement_kind kind.Do = true
+is_statement_kind kind.For = true
+is_statement_kind kind.Break = true
+is_statement_kind kind.Continue = true
+is_statement_kind kind.Return = true
+is_statement_kind kind.Switch = true
+is_statement_kind kind.Case = true
+is_statement_kind kind.Default = true
+is_statement_kind k = false
+
+module _ (P : Meaning → Type 0) (all : (ss : List Stmt) → P (performs ss)) (one : (t : CType) (ss : List Stmt) (cs : List Cell) → P (initialized t ss cs)) (label : (w : Option ℕ) → P (labels w)) (function : (f : Func) → P (defines f))
+    (p : Places) (js : List Judgement) (node : Node) where
+  declared : (b : Bool) (ss rs : List Stmt) → Yields P (means (cond b (performs ss) (performs rs)))
+  declared true ss rs = all ss
+  declared false ss rs = all rs
+
+  declaration_row : Yields P (declaration p js node)
+  unfolding declaration
+  declaration_row = search (yields_given, declared)
+
+  object_row : (n : ℕ) (e : Name) (t : CType) (q : Part) → Yields P (initialized_object p js n e t q)
+  unfolding initialized_object
+  object_row n e t q = search (yields_verdict, one)
+
+  init_by_row : (t : CType) (e : Name) → Yields P (init_by p js node t e)
+  unfolding init_by
+  init_by_row t e = search (yields_if, yields_given, yields_verdict, object_row, one)
+
+  init_row : Yields P (init_declarator p js node)
+  unfolding init_declarator
+  init_row = search (yields_given, init_by_row)
+
+  function_row : Yields P (function_node p js node)
+  unfolding function_node
+  function_row = search (yields_given, function)
+
+  block_row : Yields P (block_node js node)
+  unfolding block_node
+  block_row = search (yields_given, all)
+
+  expression_row : Yields P (expression_statement js node)
+  unfolding expression_statement
+  expression_row = search (yields_given, all)
+
+  if_row : Yields P (if_statement js node)
+  unfolding if_statement
+  if_row = search (yields_given, yields_besides, all)
+
+  while_row : Yields P (while_statement js node)
+  unfolding while_statement
+  while_row = search (yields_given, yields_besides, all)
+
+  do_row : Yields P (do_statement js node)
+  unfolding do_statement
+  do_row = search (yields_given, yields_besides, all)
+
+  for_row : Yields P (for_statement p js node)
+  unfolding for_statement
+  for_row = search (yields_given, yields_besides, all) depth 8
+
+  break_row : Yields P (break_statement p node)
+  unfolding break_statement
+  break_row = search (yields_verdict, all)
+
+  continue_row : Yields P (continue_statement p node)
+  unfolding continue_statement
+  continue_row = search (yields_verdict, all)
+
+  return_by_row : (r : CType) → Yields P (return_by js node r)
+  unfolding return_by
+  return_by_row r = search (yields_if, yields_given, yields_verdict, all)
+
+  return_row : Yields P (return_statement p js node)
+  unfolding return_statement
+  return_row = search (yields_given, return_by_row)
+
+  switch_row : Yields P (switch_statement js node)
+  unfolding switch_statement
+  switch_row = search (yields_given, yields_besides, all)
+
+  pub statement_row : (k : SynKind) → is_statement_kind k ≡ true → Yields P (judged_by p js node k)
+  unfolding judged_by
+  statement_row kind.Function e = function_row
+  statement_row kind.Declaration e = declaration_row
+  statement_row kind.InitDecl e = init_row
+  statement_row kind.Block e = block_row
+  statement_row kind.ExprStmt e = expression_row
+  statement_row kind.Empty e = all _
+  statement_row kind.If e = if_row
+  statement_row kind.While e = while_row
+  statement_row kind.Do e = do_row
+  statement_row kind.For e = for_row
+  statement_row kind.Break e = break_row
+  statement_row kind.Continue e = continue_row
+  statement_row kind.Return e = return_row
+  statement_row kind.Switch e = switch_row
+  statement_row kind.Case e = case_row P label p js node
+  statement_row kind.Default e = default_row P label p js node
+  statement_row k e = absurd (true≢false (sym e))
