@@ -34,3 +34,4 @@ pub mod MadeJumps
 pub mod MadeLabels
 pub mod MadeOthers
 pub mod MadeSizes
+pub mod MadeDefined

@@ -68,6 +68,14 @@ found_one {A} f (x ∷ xs) e = by (f x) refl e (found_one f xs)
     by true g h more = (x, inl refl, g)
     by false g h more = let m = more h in (m.0, inr m.1, m.2)
 
+pub find_is : {A : Type 0} (f : A → Bool) (xs : List A) (y : A) → find f xs ≡ Some y → In y xs × (f y ≡ true)
+find_is f [] y e = absurd (cc e)
+find_is {A} f (x ∷ xs) y e = by (f x) refl e (find_is f xs y)
+  where
+    by : (b : Bool) → f x ≡ b → cond b (Some x) (find f xs) ≡ Some y → (find f xs ≡ Some y → In y xs × (f y ≡ true)) → In y (x ∷ xs) × (f y ≡ true)
+    by true g h more = let same : x ≡ y = cc h in (inl same, subst (λ z. f z ≡ true) same g)
+    by false g h more = let m = more h in (inr m.0, m.1)
+
 -- ---- nodes around
 
 module _ (test : SynKind → Bool) (t : Tree) where

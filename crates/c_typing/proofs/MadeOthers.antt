@@ -34,8 +34,12 @@ is_statement_kind kind.Case = true
 is_statement_kind kind.Default = true
 is_statement_kind k = false
 
-module _ (P : Meaning → Type 0) (all : (ss : List Stmt) → P (performs ss)) (one : (t : CType) (ss : List Stmt) (cs : List Cell) → P (initialized t ss cs)) (label : (w : Option ℕ) → P (labels w)) (function : (f : Func) → P (defines f))
-    (p : Places) (js : List Judgement) (node : Node) where
+pub function_row : (P : Meaning → Type 0) → ((f : Func) → P (defines f)) → (p : Places) (js : List Judgement) (node : Node) → Yields P (function_node p js node)
+unfolding function_node
+function_row P each p js node = search (yields_given, each)
+
+module _ (P : Meaning → Type 0) (all : (ss : List Stmt) → P (performs ss)) (one : (t : CType) (ss : List Stmt) (cs : List Cell) → P (initialized t ss cs)) (label : (w : Option ℕ) → P (labels w))
+    (p : Places) (js : List Judgement) (node : Node) (function : node.label.kind ≡ kind.Function → Yields P (function_node p js node)) where
   declared : (b : Bool) (ss rs : List Stmt) → Yields P (means (cond b (performs ss) (performs rs)))
   declared true ss rs = all ss
   declared false ss rs = all rs
@@ -55,10 +59,6 @@ module _ (P : Meaning → Type 0) (all : (ss : List Stmt) → P (performs ss)) (
   init_row : Yields P (init_declarator p js node)
   unfolding init_declarator
   init_row = search (yields_given, init_by_row)
-
-  function_row : Yields P (function_node p js node)
-  unfolding function_node
-  function_row = search (yields_given, function)
 
   block_row : Yields P (block_node js node)
   unfolding block_node
@@ -104,22 +104,22 @@ module _ (P : Meaning → Type 0) (all : (ss : List Stmt) → P (performs ss)) (
   unfolding switch_statement
   switch_row = search (yields_given, yields_besides, all)
 
-  pub statement_row : (k : SynKind) → is_statement_kind k ≡ true → Yields P (judged_by p js node k)
+  pub statement_row : (k : SynKind) → node.label.kind ≡ k → is_statement_kind k ≡ true → Yields P (judged_by p js node k)
   unfolding judged_by
-  statement_row kind.Function e = function_row
-  statement_row kind.Declaration e = declaration_row
-  statement_row kind.InitDecl e = init_row
-  statement_row kind.Block e = block_row
-  statement_row kind.ExprStmt e = expression_row
-  statement_row kind.Empty e = all _
-  statement_row kind.If e = if_row
-  statement_row kind.While e = while_row
-  statement_row kind.Do e = do_row
-  statement_row kind.For e = for_row
-  statement_row kind.Break e = break_row
-  statement_row kind.Continue e = continue_row
-  statement_row kind.Return e = return_row
-  statement_row kind.Switch e = switch_row
-  statement_row kind.Case e = case_row P label p js node
-  statement_row kind.Default e = default_row P label p js node
-  statement_row k e = absurd (true≢false (sym e))
+  statement_row kind.Function is e = function is
+  statement_row kind.Declaration is e = declaration_row
+  statement_row kind.InitDecl is e = init_row
+  statement_row kind.Block is e = block_row
+  statement_row kind.ExprStmt is e = expression_row
+  statement_row kind.Empty is e = all _
+  statement_row kind.If is e = if_row
+  statement_row kind.While is e = while_row
+  statement_row kind.Do is e = do_row
+  statement_row kind.For is e = for_row
+  statement_row kind.Break is e = break_row
+  statement_row kind.Continue is e = continue_row
+  statement_row kind.Return is e = return_row
+  statement_row kind.Switch is e = switch_row
+  statement_row kind.Case is e = case_row P label p js node
+  statement_row kind.Default is e = default_row P label p js node
+  statement_row k is e = absurd (true≢false (sym e))

@@ -23,7 +23,7 @@ use Rattle.c_typing.specs.Typing.{judged_by, judgements_at, object_of, literal_o
 use Rattle.c_typing.proofs.MadeJudged.{Yields, IsFront, Known, all_known}
 use Rattle.c_typing.proofs.MadeForms.{is_active, is_passive_kind, passive_row, braces_row, struct_row}
 use Rattle.c_typing.proofs.MadeAnything.{any_row}
-use Rattle.c_typing.proofs.MadeOthers.{is_statement_kind, statement_row}
+use Rattle.c_typing.proofs.MadeOthers.{is_statement_kind, statement_row, function_row}
 use Rattle.c_typing.proofs.MadeStatements.{is_expression_kind}
 
 pub record IsAligned (m : Measure) : Type 0 where
@@ -121,20 +121,20 @@ module _ (p : Places) where
   free n (a_struct l) e = absurd (true≢false e)
   free n _ e = tt
 
-  other_row : (js : List Judgement) (node : Node) (k : SynKind) → (b : Bool) → is_expression_kind k ≡ b → (c : Bool) → is_statement_kind k ≡ c → b || (c || is_passive_kind k) ≡ true → Yields (Laid (length js)) (judged_by p js node k)
-  other_row js node k true e c f g = any_row (Laid (length js)) (free (length js)) (λ x h. tt) p js node k e
-  other_row js node k false e true f g = statement_row (Laid (length js)) (λ ss. tt) (λ t ss cs. tt) (λ w. tt) (λ h. tt) p js node k f
-  other_row js node k false e false f g = passive_row (Laid (length js)) (free (length js)) p js node k g
+  other_row : (js : List Judgement) (node : Node) (k : SynKind) → node.label.kind ≡ k → (b : Bool) → is_expression_kind k ≡ b → (c : Bool) → is_statement_kind k ≡ c → b || (c || is_passive_kind k) ≡ true → Yields (Laid (length js)) (judged_by p js node k)
+  other_row js node k is true e c f g = any_row (Laid (length js)) (free (length js)) (λ x h. tt) p js node k e
+  other_row js node k is false e true f g = statement_row (Laid (length js)) (λ ss. tt) (λ t ss cs. tt) (λ w. tt) p js node (λ q. function_row (Laid (length js)) (λ h. tt) p js node) k is f
+  other_row js node k is false e false f g = passive_row (Laid (length js)) (free (length js)) p js node k g
 
-  row : (js : List Judgement) (node : Node) → Known p Laid js → (k : SynKind) → Yields (Laid (length js)) (judged_by p js node k)
+  row : (js : List Judgement) (node : Node) → Known p Laid js → (k : SynKind) → node.label.kind ≡ k → Yields (Laid (length js)) (judged_by p js node k)
   unfolding judged_by
-  row js node known kind.StructSpec = struct_row p js node (Laid (length js))
+  row js node known kind.StructSpec is = struct_row p js node (Laid (length js))
       (λ fields k. struct_aligned (map (λ (x : Field). unwrap_or (measure (layouts js) x.type) no_measure) (flat_map (λ fs. fs) fields)) (members_aligned (layouts js) (flat_map (λ fs. fs) fields) (layouts_all (λ (l : Layout). IsAligned l.measure) js (λ k l h. known k (a_struct l) h)))) (λ t. tt)
-  row js node known kind.Braces = braces_row (Laid (length js)) (λ n cs. tt) p js node
-  row js node known k = other_row js node k (is_expression_kind k) refl (is_statement_kind k) refl refl
+  row js node known kind.Braces is = braces_row (Laid (length js)) (λ n cs. tt) p js node
+  row js node known k is = other_row js node k is (is_expression_kind k) refl (is_statement_kind k) refl refl
 
   pub all_laid : AllAligned (layouts (judgements_at p))
-  all_laid = layouts_all (λ (l : Layout). IsAligned l.measure) (judgements_at p) (λ k l e. all_known p Laid (λ js node there front known. row js node known node.label.kind) k (a_struct l) e)
+  all_laid = layouts_all (λ (l : Layout). IsAligned l.measure) (judgements_at p) (λ k l e. all_known p Laid (λ js node there front known. row js node known node.label.kind refl) k (a_struct l) e)
 
   objects_aligned : (es : List Name) → AllByRecursion (λ (o : Object). IsAlignment o.align) (map (object_of p (judgements_at p)) es)
   objects_aligned [] = tt
