@@ -35,3 +35,5 @@ pub mod MadeLabels
 pub mod MadeOthers
 pub mod MadeSizes
 pub mod MadeDefined
+pub mod MadeWhole
+pub mod MadeNames

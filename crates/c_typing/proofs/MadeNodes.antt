@@ -133,6 +133,28 @@ nest x n first parent (tree label kids rest) k h i j low high =
         | root e ↦ (let also : first + size kids ≡ n.id = ap (λ (y : Node). y.id) e in absurd (omega (arith, c, also, d1, low)))
         | behind b ↦ nest x n (first + size kids + 1) parent rest k a b j low high ]) ]
 
+-- two nodes do not cross
+cross : (x y : Node) (first parent : ℕ) (f : Forest) → In x (nodes_of first parent f) → In y (nodes_of first parent f) → x.first ≤ y.id → y.id < x.id → x.first ≤ y.first
+cross x y first parent none h i low high = absurd h
+cross x y first parent (tree label kids rest) h i low high =
+    elim (place x first parent label kids rest h) [
+    below a ↦ (let c = (bounds x first (first + size kids) kids a).to in
+        elim (place y first parent label kids rest i) [
+        below b ↦ cross x y first (first + size kids) kids a b low high
+        | root e ↦ (let also : first + size kids ≡ y.id = ap (λ (z : Node). z.id) e in absurd (omega (arith, c, also, high)))
+        | behind b ↦ (let g = bounds y (first + size kids + 1) parent rest b in
+            let g0 = g.from in
+            let g1 = g.up in
+            absurd (omega (arith, c, g0, g1, high))) ])
+    | root e ↦ (let same : first ≡ x.first = ap (λ (z : Node). z.first) e in
+        let g = (bounds y first parent (tree label kids rest) i).from in
+        omega (arith, same, g))
+    | behind a ↦ (let c = (bounds x (first + size kids + 1) parent rest a).from in
+        elim (place y first parent label kids rest i) [
+        below b ↦ (let g = (bounds y first (first + size kids) kids b).to in absurd (omega (arith, c, g, low)))
+        | root e ↦ (let also : first + size kids ≡ y.id = ap (λ (z : Node). z.id) e in absurd (omega (arith, c, also, low)))
+        | behind b ↦ cross x y (first + size kids + 1) parent rest a b low high ]) ]
+
 -- ---- kids
 
 pub record IsKid (all : List Node) (parent first k : ℕ) : Type 0 where
@@ -221,3 +243,6 @@ module _ (t : Tree) where
   pub root_last : root_node.id ≡ size t.kids
   unfolding root_node
   root_last = omega arith
+
+  pub crossed : (x y : Node) → In x all → In y all → x.first ≤ y.id → y.id < x.id → x.first ≤ y.first
+  crossed x y h i low high = cross x y 0 (size (one t)) (one t) h i low high

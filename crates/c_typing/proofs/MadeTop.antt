@@ -1,15 +1,16 @@
 -- A function stands in the unit alone.
 use Rattle.std.proofs.Common.{◌≡◌, ◌⊎◌, inl, inr, ℕ, zero, suc, ◌+◌, ◌<◌, ◌≤◌, Bool, true, false, List, [], ◌∷◌, length, Some, refl, sym, ap, ◌∙◌, subst, arith, true≢false}
-use Rattle.std.specs.Prelude.{slice_get}
+use Rattle.std.specs.Prelude.{slice_get, if◌then◌else◌}
 use Rattle.c_lexer.specs.declared.token.Token.{Token}
 use Rattle.c_syntax.specs.declared.kind.SynKind.{SynKind}
 use Rattle.c_syntax.specs.declared.kind.SynKind.TheVariants as kind
 use Rattle.c_syntax.specs.Trees.{Tree, one}
 use Rattle.c_syntax.specs.Tables.{size, table_of}
 use Rattle.c_grammar.specs.Derivation.{IsTreeOf}
+use Rattle.c_grammar.specs.Vocabulary.{is_storage_word, is_type_word}
 use Rattle.c_typing.specs.Places.{Node, nodes, is_unit}
 use Rattle.c_typing.specs.Shapes as category
-use Rattle.c_typing.specs.Shapes.{Category, category_by, categories, category_of, stands_in, at_places, categories_of}
+use Rattle.c_typing.specs.Shapes.{Category, category_by, declarator_over, in_parentheses, categories, category_of, stands_in, at_places, categories_of}
 use Rattle.c_typing.specs.ShapesOfNodes.{as_id, category_at, HasParent}
 use Rattle.c_typing.proofs.ShapesLaw.{root_is_unit}
 use Rattle.c_typing.proofs.ShapesNodes.{node_placed, node_has_parent}
@@ -96,3 +97,50 @@ module _ (tokens : List Token) (t : Tree) (derived : IsTreeOf tokens t) where
       let root = is_root x.id x there (omega (arith, wide, at, most)) in
       let parent_root = is_root m.parent p.parent p.found most in
       ap (λ (y : Node). y.label.kind) (root ∙ sym parent_root) ∙ unit
+
+  abbrev is_unit_category : Category → Bool
+  is_unit_category category.unit = true
+  is_unit_category c = false
+
+  over_no_unit : (cs : List Category) → is_unit_category (declarator_over cs) ≡ true → ⊥
+  over_no_unit [] e = true≢false (sym e)
+  over_no_unit (category.declarator ∷ cs) e = true≢false (sym e)
+  over_no_unit (category.abstract_declarator ∷ cs) e = true≢false (sym e)
+  over_no_unit (category.no_name ∷ cs) e = true≢false (sym e)
+  over_no_unit (_ ∷ cs) e = true≢false (sym e)
+
+  paren_no_unit : (cs : List Category) → is_unit_category (in_parentheses cs) ≡ true → ⊥
+  paren_no_unit [] e = true≢false (sym e)
+  paren_no_unit (category.expression level ∷ cs) e = true≢false (sym e)
+  paren_no_unit (category.declarator ∷ cs) e = true≢false (sym e)
+  paren_no_unit (category.abstract_declarator ∷ cs) e = true≢false (sym e)
+  paren_no_unit (category.no_name ∷ cs) e = true≢false (sym e)
+  paren_no_unit (_ ∷ cs) e = true≢false (sym e)
+
+  word_no_unit : (a b : Bool) → is_unit_category (if a then category.storage_word else (if b then category.type_specifier else category.typedef_name)) ≡ true → ⊥
+  word_no_unit true b e = true≢false (sym e)
+  word_no_unit false true e = true≢false (sym e)
+  word_no_unit false false e = true≢false (sym e)
+
+  unit_kind : (k : SynKind) (text : List ℕ) (cs : List Category) → is_unit_category (category_by k text cs) ≡ true → k ≡ kind.Unit
+  unfolding category_by
+  unit_kind kind.Unit text cs e = refl
+  unit_kind kind.Pointer text cs e = absurd (over_no_unit cs e)
+  unit_kind kind.ArrayOf text cs e = absurd (over_no_unit cs e)
+  unit_kind kind.Paren text cs e = absurd (paren_no_unit cs e)
+  unit_kind kind.Word text cs e = absurd (word_no_unit (is_storage_word text) (is_type_word text) e)
+  unit_kind k text cs e = absurd (true≢false (sym e))
+
+  -- what is no unit has a parent
+  pub has_parent : (n : ℕ) (m : Node) → slice_get (nodes t) n ≡ Some m → (category_at t n ≡ category.unit → ⊥) → HasParent t n m
+  has_parent n m e other = by (or_not n (size t.kids))
+    where
+      or_not : (a b : ℕ) → (a < b) ⊎ (b ≤ a)
+      or_not a b = grind arith
+      by : (n < size t.kids) ⊎ (size t.kids ≤ n) → HasParent t n m
+      by (inl lt) = node_has_parent tokens t derived n m e lt
+      by (inr most) =
+          let label = ap (λ (x : Node). x.label) (is_root n m e most) ∙ root_label t in
+          let root : t.label.kind ≡ kind.Unit = unit_kind t.label.kind t.label.text (categories t.kids) (ap is_unit_category (root_is_unit tokens t derived)) in
+          let is = category_is n m e in
+          absurd (other (is.1 ∙ by_unit m.label.kind m.label.text is.0 (ap (λ l. l.kind) label ∙ root)))
