@@ -37,3 +37,4 @@ pub mod MadeSizes
 pub mod MadeDefined
 pub mod MadeWhole
 pub mod MadeNames
+pub mod MadeDeclarators

@@ -5,16 +5,16 @@ use Rattle.c_syntax.specs.declared.kind.SynKind.TheVariants as kind
 use Rattle.c_typing.specs.Types.{CType, pointer, function}
 use Rattle.c_typing.specs.Places.{Node, kid}
 use Rattle.c_typing.specs.Names.{Places, Name, Entity, typedef_name, function_name, static_object, enumerator, denoted}
-use Rattle.c_typing.specs.Judgements.{Meaning, expresses, fills_array, Judgement, means, Typing, Form, callee, Callee, typing_at}
+use Rattle.c_typing.specs.Judgements.{PlacedStep, steps, Meaning, expresses, fills_array, Judgement, means, Typing, Form, callee, Callee, typing_at}
 use Rattle.c_typing.specs.Conversions.{Operator}
 use Rattle.c_typing.specs.Initializers.{string}
 use Rattle.c_typing.specs.Expressions.{variable_by, variable, prefix_step, postfix_step, subscript, called, call_by, dot, arrow, address_operator, dereference, sign_operator, not_operator, unary, measured_type, cast, binary_by, binary_operator, conditional, comma, assignment, compound_by, assign}
-use Rattle.c_typing.specs.Typing.{judged_by, with_operand, with_operands, choice_node, call_node, cast_node}
+use Rattle.c_typing.specs.Typing.{judged_by, with_operand, with_operands, choice_node, call_node, cast_node, in_parentheses}
 use Rattle.c_typing.proofs.MadeJudged.{Yields, yields_verdict, yields_besides, yields_given}
 use Rattle.c_typing.proofs.MadeForms.{is_active, yields_if, paren_row}
 use Rattle.c_typing.proofs.MadeStatements.{is_expression_kind}
 
-module _ (P : Meaning → Type 0) (free : (m : Meaning) → is_active m ≡ false → P m) (all : (x : Typing) (h : ℕ) → P (expresses x h)) (p : Places) (js : List Judgement) (node : Node) where
+module _ (P : Meaning → Type 0) (free : (m : Meaning) → is_active m ≡ false → P m) (all : (x : Typing) (h : ℕ) → P (expresses x h)) (p : Places) (js : List Judgement) (node : Node) (paren : node.label.kind ≡ kind.Paren → Yields P (in_parentheses p js node (typing_at js (kid node 0)))) where
   string_row : Yields P (string p js node)
   unfolding string
   string_row = search (yields_if, free, all)
@@ -119,24 +119,28 @@ module _ (P : Meaning → Type 0) (free : (m : Meaning) → is_active m ≡ fals
   unfolding comma
   comma_row x y = search (all)
 
-  pub any_row : (k : SynKind) → is_expression_kind k ≡ true → Yields P (judged_by p js node k)
+  pub expression_kind_row : (k : SynKind) → node.label.kind ≡ k → is_expression_kind k ≡ true → Yields P (judged_by p js node k)
   unfolding judged_by
-  any_row kind.Paren e = paren_row P free p js node (typing_at js (kid node 0)) (λ x h. all x 0)
-  any_row (kind.Int type) e = search (all)
-  any_row kind.Char e = search (all)
-  any_row kind.Str e = string_row
-  any_row kind.Var e = variable_row (denoted p.names node.id node.label.text)
-  any_row kind.Unary e = search (yields_given, unary_row)
-  any_row kind.Post e = search (yields_given, postfix_row)
-  any_row kind.Binary e = search (yields_given, binary_row)
-  any_row kind.Assign e = search (yields_given, assign_row)
-  any_row kind.Cond e = search (yields_given, yields_besides, conditional_row)
-  any_row kind.Comma e = search (yields_given, comma_row)
-  any_row kind.Index e = search (yields_given, subscript_row)
-  any_row kind.Call e = search (yields_given, call_by_row)
-  any_row kind.Dot e = search (yields_given, dot_row)
-  any_row kind.Arrow e = search (yields_given, arrow_row)
-  any_row kind.Cast e = search (yields_given, cast_row)
-  any_row kind.SizeExpr e = search (yields_given, measured_row)
-  any_row kind.SizeType e = search (yields_given, measured_row)
-  any_row k e = absurd (true≢false (sym e))
+  expression_kind_row kind.Paren is e = paren is
+  expression_kind_row (kind.Int type) is e = search (all)
+  expression_kind_row kind.Char is e = search (all)
+  expression_kind_row kind.Str is e = string_row
+  expression_kind_row kind.Var is e = variable_row (denoted p.names node.id node.label.text)
+  expression_kind_row kind.Unary is e = search (yields_given, unary_row)
+  expression_kind_row kind.Post is e = search (yields_given, postfix_row)
+  expression_kind_row kind.Binary is e = search (yields_given, binary_row)
+  expression_kind_row kind.Assign is e = search (yields_given, assign_row)
+  expression_kind_row kind.Cond is e = search (yields_given, yields_besides, conditional_row)
+  expression_kind_row kind.Comma is e = search (yields_given, comma_row)
+  expression_kind_row kind.Index is e = search (yields_given, subscript_row)
+  expression_kind_row kind.Call is e = search (yields_given, call_by_row)
+  expression_kind_row kind.Dot is e = search (yields_given, dot_row)
+  expression_kind_row kind.Arrow is e = search (yields_given, arrow_row)
+  expression_kind_row kind.Cast is e = search (yields_given, cast_row)
+  expression_kind_row kind.SizeExpr is e = search (yields_given, measured_row)
+  expression_kind_row kind.SizeType is e = search (yields_given, measured_row)
+  expression_kind_row k is e = absurd (true≢false (sym e))
+
+pub any_row : (P : Meaning → Type 0) → ((m : Meaning) → is_active m ≡ false → P m) → ((ss : List PlacedStep) → P (steps ss)) → ((x : Typing) (h : ℕ) → P (expresses x h)) → (p : Places) (js : List Judgement) (node : Node)
+    → (k : SynKind) → node.label.kind ≡ k → is_expression_kind k ≡ true → Yields P (judged_by p js node k)
+any_row P free part all p js node k is e = expression_kind_row P free all p js node (λ q. paren_row P free part p js node (typing_at js (kid node 0)) (λ x h. all x 0)) k is e

@@ -85,9 +85,9 @@ module _ (t : Tree) where
 
   other_row : (js : List Judgement) (node : Node) → slice_get (nodes t) (length js) ≡ Some node → IsFront (places t) js → (k : SynKind) → node.label.kind ≡ k → (b : Bool) → is_expression_kind k ≡ b → (c : Bool) → is_statement_kind k ≡ c → b || (c || is_passive_kind k) ≡ true
       → Yields (Holds (length js)) (judged_by (places t) js node k)
-  other_row js node there front k is true e c f g = any_row (Holds (length js)) (free (length js)) (λ x h2. tt) (places t) js node k e
+  other_row js node there front k is true e c f g = any_row (Holds (length js)) (free (length js)) (λ ss. tt) (λ x h2. tt) (places t) js node k is e
   other_row js node there front k is false e true f g = statement_row (Holds (length js)) (λ ss. tt) (λ u ss cs. tt) (λ w. tt) (places t) js node (λ q. defined_row js node there front q) k is f
-  other_row js node there front k is false e false f g = passive_row (Holds (length js)) (free (length js)) (places t) js node k g
+  other_row js node there front k is false e false f g = passive_row (Holds (length js)) (free (length js)) (λ ss. tt) (places t) js node k g
 
   row : (js : List Judgement) (node : Node) → slice_get (nodes t) (length js) ≡ Some node → IsFront (places t) js → (k : SynKind) → node.label.kind ≡ k → Yields (Holds (length js)) (judged_by (places t) js node k)
   unfolding judged_by

@@ -1,5 +1,5 @@
 -- The forms of meanings by kinds of nodes: what is neither an expression nor acts.
-use Rattle.std.proofs.Common.{◌≡◌, ℕ, zero, suc, Bool, true, false, List, [], ◌∷◌, ◌++◌, Option, Some, None, refl, sym, true≢false}
+use Rattle.std.proofs.Common.{◌≡◌, ℕ, zero, suc, Bool, true, false, ◌||◌, List, [], ◌∷◌, ◌++◌, Option, Some, None, refl, sym, true≢false}
 use Rattle.std.specs.Prelude.{if◌then◌else◌, flat_map}
 use Rattle.c_syntax.specs.declared.kind.SynKind.{SynKind}
 use Rattle.c_syntax.specs.declared.kind.SynKind.TheVariants as kind
@@ -15,33 +15,41 @@ use Rattle.c_typing.specs.Statements.{case_label, default_label}
 use Rattle.c_typing.specs.Typing.{unit_node, in_parentheses, judged_by}
 use Rattle.c_typing.proofs.MadeJudged.{Yields, yields_verdict, yields_besides, yields_given}
 
--- an expression, a statement, a declarator with its initializer, a label, a function, a struct with its body or a braced initializer
+-- an expression, steps of a declarator, a statement, a declarator with its initializer, a label, a function, a struct with its body or a braced initializer
 abbrev pub is_active : Meaning → Bool
 is_active (expresses x h) = true
 is_active (initialized t ss cs) = true
 is_active (performs ss) = true
 is_active (labels w) = true
+is_active (steps ss) = true
 is_active (a_struct l) = true
 is_active (initial n cs) = true
 is_active (defines f) = true
 is_active m = false
 
--- the kinds of nodes that mean such
+-- the kinds of nodes that mean no such
+abbrev pub is_plain_kind : SynKind → Bool
+is_plain_kind kind.Unit = true
+is_plain_kind kind.Specs = true
+is_plain_kind kind.Word = true
+is_plain_kind kind.Member = true
+is_plain_kind kind.EnumSpec = true
+is_plain_kind kind.Enumer = true
+is_plain_kind kind.Param = true
+is_plain_kind kind.TypeName = true
+is_plain_kind k = false
+
+-- and those of declarators, parentheses aside
+abbrev pub is_declarator_kind : SynKind → Bool
+is_declarator_kind kind.Ident = true
+is_declarator_kind kind.NoName = true
+is_declarator_kind kind.Pointer = true
+is_declarator_kind kind.ArrayOf = true
+is_declarator_kind kind.Takes = true
+is_declarator_kind k = false
+
 abbrev pub is_passive_kind : SynKind → Bool
-is_passive_kind kind.Unit = true
-is_passive_kind kind.Specs = true
-is_passive_kind kind.Word = true
-is_passive_kind kind.Member = true
-is_passive_kind kind.EnumSpec = true
-is_passive_kind kind.Enumer = true
-is_passive_kind kind.Ident = true
-is_passive_kind kind.NoName = true
-is_passive_kind kind.Pointer = true
-is_passive_kind kind.ArrayOf = true
-is_passive_kind kind.Takes = true
-is_passive_kind kind.Param = true
-is_passive_kind kind.TypeName = true
-is_passive_kind k = false
+is_passive_kind k = is_plain_kind k || is_declarator_kind k
 
 pub yields_if : (P : Meaning → Type 0) (c : Bool) (x y : Judgement) → Yields P x → Yields P y → Yields P (if c then x else y)
 yields_if P true x y h k = h
@@ -52,18 +60,6 @@ yields_if_so P true x y h k = h refl
 yields_if_so P false x y h k = k refl
 
 module _ (P : Meaning → Type 0) (free : (m : Meaning) → is_active m ≡ false → P m) (p : Places) (js : List Judgement) (node : Node) where
-  built_row : (owner : Node) (t : CType) (fs : List Fault) → Yields P (whole_type p js node owner (built t fs))
-  unfolding whole_type
-  built_row owner t [] = search (yields_verdict, free)
-  built_row owner t (f ∷ fs) = tt
-
-  whole_row : (owner : Node) (b : Built) → Yields P (whole_type p js node owner b)
-  whole_row owner b = built_row owner b.type b.faults
-
-  declarator_row : (ss : List PlacedStep) → Yields P (declarator p js node ss)
-  unfolding declarator
-  declarator_row ss = search (yields_if, yields_given, whole_row, free)
-
   unit_row : Yields P (unit_node p node)
   unfolding unit_node
   unit_row = search (yields_verdict, free)
@@ -93,6 +89,40 @@ module _ (P : Meaning → Type 0) (free : (m : Meaning) → is_active m ≡ fals
   unfolding enumerator_node enumerator_value
   enumerator_row = search (yields_if, yields_given, yields_verdict, free, after_row)
 
+  parameter_row : Yields P (parameter_node js node)
+  unfolding parameter_node
+  parameter_row = search (yields_given, free)
+
+  type_name_row : Yields P (type_name js node)
+  unfolding type_name
+  type_name_row = search (yields_given, free)
+
+  pub plain_row : (k : SynKind) → is_plain_kind k ≡ true → Yields P (judged_by p js node k)
+  unfolding judged_by
+  plain_row kind.Unit e = unit_row
+  plain_row kind.Specs e = specs_row
+  plain_row kind.Word e = word_row
+  plain_row kind.Member e = member_row
+  plain_row kind.EnumSpec e = enum_row
+  plain_row kind.Enumer e = enumerator_row
+  plain_row kind.Param e = parameter_row
+  plain_row kind.TypeName e = type_name_row
+  plain_row k e = absurd (true≢false (sym e))
+
+-- declarators, whole or parts
+module _ (P : Meaning → Type 0) (free : (m : Meaning) → is_active m ≡ false → P m) (part : (ss : List PlacedStep) → P (steps ss)) (p : Places) (js : List Judgement) (node : Node) where
+  built_row : (owner : Node) (t : CType) (fs : List Fault) → Yields P (whole_type p js node owner (built t fs))
+  unfolding whole_type
+  built_row owner t [] = search (yields_verdict, free)
+  built_row owner t (f ∷ fs) = tt
+
+  whole_row : (owner : Node) (b : Built) → Yields P (whole_type p js node owner b)
+  whole_row owner b = built_row owner b.type b.faults
+
+  declarator_row : (ss : List PlacedStep) → Yields P (declarator p js node ss)
+  unfolding declarator
+  declarator_row ss = search (yields_if, yields_given, whole_row, part)
+
   pointer_row : Yields P (pointer_declarator p js node)
   unfolding pointer_declarator
   pointer_row = search (yields_given, declarator_row)
@@ -117,30 +147,21 @@ module _ (P : Meaning → Type 0) (free : (m : Meaning) → is_active m ≡ fals
   unfolding function_declarator
   takes_row = search (yields_besides, yields_given, declarator_row)
 
-  parameter_row : Yields P (parameter_node js node)
-  unfolding parameter_node
-  parameter_row = search (yields_given, free)
-
-  type_name_row : Yields P (type_name js node)
-  unfolding type_name
-  type_name_row = search (yields_given, free)
+  pub declarator_kind_row : (k : SynKind) → is_declarator_kind k ≡ true → Yields P (judged_by p js node k)
+  unfolding judged_by
+  declarator_kind_row kind.Ident e = declarator_row []
+  declarator_kind_row kind.NoName e = declarator_row []
+  declarator_kind_row kind.Pointer e = pointer_row
+  declarator_kind_row kind.ArrayOf e = array_row
+  declarator_kind_row kind.Takes e = takes_row
+  declarator_kind_row k e = absurd (true≢false (sym e))
 
   pub passive_row : (k : SynKind) → is_passive_kind k ≡ true → Yields P (judged_by p js node k)
-  unfolding judged_by
-  passive_row kind.Unit e = unit_row
-  passive_row kind.Specs e = specs_row
-  passive_row kind.Word e = word_row
-  passive_row kind.Member e = member_row
-  passive_row kind.EnumSpec e = enum_row
-  passive_row kind.Enumer e = enumerator_row
-  passive_row kind.Ident e = declarator_row []
-  passive_row kind.NoName e = declarator_row []
-  passive_row kind.Pointer e = pointer_row
-  passive_row kind.ArrayOf e = array_row
-  passive_row kind.Takes e = takes_row
-  passive_row kind.Param e = parameter_row
-  passive_row kind.TypeName e = type_name_row
-  passive_row k e = absurd (true≢false (sym e))
+  passive_row k e = by (is_plain_kind k) refl e
+    where
+      by : (b : Bool) → is_plain_kind k ≡ b → b || is_declarator_kind k ≡ true → Yields P (judged_by p js node k)
+      by true f g = plain_row P free p js node k f
+      by false f g = declarator_kind_row k g
 
   -- parentheses: of an expression, or of a declarator
   pub paren_row : (o : Option Typing) → ((x : Typing) → o ≡ Some x → P (expression x)) → Yields P (in_parentheses p js node o)

@@ -203,7 +203,7 @@ module _ (tokens : List Token) (t : Tree) (derived : IsTreeOf tokens t) where
     labelled = λ js node there front e. case_row (Good t AnyTyping Any Ends Free Whole AnyLabel (length js)) (λ w. tt) (places t) js node;
     otherwise = λ js node there front e. default_row (Good t AnyTyping Any Ends Free Whole AnyLabel (length js)) (λ w. tt) (places t) js node;
     function = λ js node there front e known. function_row js node there e known;
-    expression = λ js node there front e known. any_row (Good t AnyTyping Any Ends Free Whole AnyLabel (length js)) (free (length js)) (λ x h. tt) (places t) js node node.label.kind e;
+    expression = λ js node there front e known. any_row (Good t AnyTyping Any Ends Free Whole AnyLabel (length js)) (free (length js)) (λ ss. tt) (λ x h. tt) (places t) js node node.label.kind refl e;
   }
 
   pub jumps_end : AllByRecursion (λ (f : Func). JumpsEnd false false f.body) (filter_map defined_in (judgements_at (places t)))

@@ -254,7 +254,7 @@ module _ (tokens : List Token) (t : Tree) (derived : IsTreeOf tokens t) where
     labelled = λ js node there front e. case_once js node there front;
     otherwise = λ js node there front e. default_once js node there front;
     function = λ js node there front e known. function_row js node known;
-    expression = λ js node there front e known. any_row (Holds (length js)) (free (length js)) (λ x h. tt) (places t) js node node.label.kind e;
+    expression = λ js node there front e known. any_row (Holds (length js)) (free (length js)) (λ ss. tt) (λ x h. tt) (places t) js node node.label.kind refl e;
   }
 
   all_choose : AllByRecursion (λ (f : Func). EveryStmt Chooses f.body) (filter_map defined_in (judgements_at (places t)))

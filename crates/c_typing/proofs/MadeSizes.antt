@@ -122,9 +122,9 @@ module _ (p : Places) where
   free n _ e = tt
 
   other_row : (js : List Judgement) (node : Node) (k : SynKind) → node.label.kind ≡ k → (b : Bool) → is_expression_kind k ≡ b → (c : Bool) → is_statement_kind k ≡ c → b || (c || is_passive_kind k) ≡ true → Yields (Laid (length js)) (judged_by p js node k)
-  other_row js node k is true e c f g = any_row (Laid (length js)) (free (length js)) (λ x h. tt) p js node k e
+  other_row js node k is true e c f g = any_row (Laid (length js)) (free (length js)) (λ ss. tt) (λ x h. tt) p js node k is e
   other_row js node k is false e true f g = statement_row (Laid (length js)) (λ ss. tt) (λ t ss cs. tt) (λ w. tt) p js node (λ q. function_row (Laid (length js)) (λ h. tt) p js node) k is f
-  other_row js node k is false e false f g = passive_row (Laid (length js)) (free (length js)) p js node k g
+  other_row js node k is false e false f g = passive_row (Laid (length js)) (free (length js)) (λ ss. tt) p js node k g
 
   row : (js : List Judgement) (node : Node) → Known p Laid js → (k : SynKind) → node.label.kind ≡ k → Yields (Laid (length js)) (judged_by p js node k)
   unfolding judged_by

@@ -377,7 +377,7 @@ module _ (t : Tree) (X : ℕ → Typing → ℕ → Type 0) (V : ℕ → Expr �
 
     other_row : (k : SynKind) → node.label.kind ≡ k → (b : Bool) → is_expression_kind k ≡ b → b || is_passive_kind k ≡ true → Yields (Good (length js)) (judged_by (places t) js node k)
     other_row k e true f h = subst (λ i. Yields (Good (length js)) (judged_by (places t) js node i)) e (c.expression js node there front (ap is_expression_kind e ∙ f) known)
-    other_row k e false f h = passive_row (Good (length js)) free (places t) js node k h
+    other_row k e false f h = passive_row (Good (length js)) free (λ ss. tt) (places t) js node k h
 
     row : (k : SynKind) → node.label.kind ≡ k → Yields (Good (length js)) (judged_by (places t) js node k)
     unfolding judged_by
