@@ -38,3 +38,5 @@ pub mod MadeDefined
 pub mod MadeWhole
 pub mod MadeNames
 pub mod MadeDeclarators
+pub mod MadeFunctionNames
+pub mod MadeTexts

@@ -9,7 +9,7 @@ use Rattle.c_grammar.specs.Derivation.{IsTreeOf}
 use Rattle.c_typing.specs.Types.{CType, types_of}
 use Rattle.c_typing.specs.Places.{Node, nodes, kid, other_kids, parent_of, specs_of, is_declarator, is_whole, has_kid}
 use Rattle.c_typing.specs.Names.{Places, places, name_of}
-use Rattle.c_typing.specs.Judgements.{Step, to_pointer, of_array, of_unsized, of_function, PlacedStep, Meaning, steps, declares, expresses, performs, initialized, initial, a_struct, labels, defines, Typing, Fault, Judgement, means, verdict, besides, given, judgement_at, typing_at, type_at, steps_at, steps_of, layouts, all_of, before}
+use Rattle.c_typing.specs.Judgements.{Step, to_pointer, of_array, of_unsized, of_function, PlacedStep, Meaning, steps, declares, a_type, expresses, performs, initialized, initial, a_struct, labels, defines, Typing, Fault, Judgement, means, verdict, besides, given, judgement_at, typing_at, type_at, steps_at, steps_of, type_of, layouts, all_of, before}
 use Rattle.c_typing.specs.Expressions.{expression}
 use Rattle.c_typing.specs.Rules.{absent_length}
 use Rattle.c_typing.specs.Declarators.{Built, built, build, adjusted, whole_by, whole_type, declarator, with_step, pointer_declarator, absent_length_step, length_faults, length_step, array_declarator, function_declarator, is_parameter_length, is_given_by_initializer, word_in}
@@ -77,6 +77,8 @@ module _ (tokens : List Token) (t : Tree) (derived : IsTreeOf tokens t) (C : Nod
   abbrev Holds : ℕ → Meaning → Type 0
   Holds n (steps ss) = (node : Node) → slice_get (nodes t) n ≡ Some node → (is_declarator node.label.kind ≡ true) × C node ss
   Holds n (declares u) = (node : Node) → slice_get (nodes t) n ≡ Some node → is_declarator node.label.kind ≡ true → Whole t C n node u
+  Holds n (a_type u) = (node : Node) → slice_get (nodes t) n ≡ Some node → is_declarator node.label.kind ≡ false
+  Holds n (initialized u ss cs) = (node : Node) → slice_get (nodes t) n ≡ Some node → is_declarator node.label.kind ≡ false
   Holds n m = Unit {0}
 
   module _ (js : List Judgement) (node : Node) (there : slice_get (nodes t) (length js) ≡ Some node) (front : IsFront (places t) js) (known : Known (places t) Holds js) where
@@ -154,9 +156,14 @@ module _ (tokens : List Token) (t : Tree) (derived : IsTreeOf tokens t) (C : Nod
     paren_row e (Some x) = tt
     paren_row e None = yields_given (Holds (length js)) (steps_at js (kid node 0)) (declarator (places t) js node) (λ ss g. declarator_row (ap is_declarator e) ss (c.parentheses node (low (ap is_step_kind e)).node ss at_own (low (ap is_step_kind e)).there e (low_chain (ap is_step_kind e) ss g)))
 
+    apart : is_declarator node.label.kind ≡ false → (other : Node) → slice_get (nodes t) (length js) ≡ Some other → is_declarator other.label.kind ≡ false
+    apart e other g = ap (λ (m : Node). is_declarator m.label.kind) (sym (same_node other g)) ∙ e
+
     free : is_declarator node.label.kind ≡ false → (m : Meaning) → is_active m ≡ false → Holds (length js) m
     free e (steps ss) f = absurd (true≢false f)
     free e (declares u) f = λ other g d. absurd (true≢false (sym d ∙ (ap (λ (m : Node). is_declarator m.label.kind) (sym (same_node other g)) ∙ e)))
+    free e (a_type u) f = apart e
+    free e (initialized u ss cs) f = absurd (true≢false f)
     free e _ f = tt
 
     no_paren : (k : SynKind) → is_declarator k ≡ false → k ≡ kind.Paren → ⊥
@@ -164,7 +171,7 @@ module _ (tokens : List Token) (t : Tree) (derived : IsTreeOf tokens t) (C : Nod
 
     other_row : (k : SynKind) → node.label.kind ≡ k → is_declarator k ≡ false → (a : Bool) → is_expression_kind k ≡ a → (b : Bool) → is_statement_kind k ≡ b → a || (b || is_plain_kind k) ≡ true → Yields (Holds (length js)) (judged_by (places t) js node k)
     other_row k e d true f b g h = expression_kind_row (Holds (length js)) (free (ap is_declarator e ∙ d)) (λ x n. tt) (places t) js node (λ q. absurd (no_paren k d (sym e ∙ q))) k e f
-    other_row k e d false f true g h = statement_row (Holds (length js)) (λ ss. tt) (λ u ss cs. tt) (λ w. tt) (places t) js node (λ q. function_row (Holds (length js)) (λ h2. tt) (places t) js node) k e g
+    other_row k e d false f true g h = statement_row (Holds (length js)) (λ ss. tt) (λ u ss cs. apart (ap is_declarator e ∙ d)) (λ w. tt) (places t) js node (λ q. function_row (Holds (length js)) (λ h2. tt) (places t) js node) k e g
     other_row k e d false f false g h = plain_row (Holds (length js)) (free (ap is_declarator e ∙ d)) (places t) js node k h
 
     row : (k : SynKind) → node.label.kind ≡ k → Yields (Holds (length js)) (judged_by (places t) js node k)
@@ -175,9 +182,21 @@ module _ (tokens : List Token) (t : Tree) (derived : IsTreeOf tokens t) (C : Nod
     row kind.ArrayOf e = array_row e
     row kind.Takes e = takes_row e
     row kind.Paren e = paren_row e (typing_at js (kid node 0))
-    row kind.StructSpec e = struct_row (places t) js node (Holds (length js)) (λ fields k. tt) (λ u. tt)
+    row kind.StructSpec e = struct_row (places t) js node (Holds (length js)) (λ fields k. tt) (λ u. apart (ap is_declarator e))
     row kind.Braces e = braces_row (Holds (length js)) (λ n cs. tt) (places t) js node
     row k e = other_row k e refl (is_expression_kind k) refl (is_statement_kind k) refl refl
 
   pub declared_at : (n : ℕ) (u : CType) → judgement_at (judgements_at (places t)) n ≡ means (declares u) → (node : Node) → slice_get (nodes t) n ≡ Some node → is_declarator node.label.kind ≡ true → Whole t C n node u
   declared_at n u e = all_known (places t) Holds (λ js node there front known. row js node there front known node.label.kind refl) n (declares u) e
+
+  -- the type of a declarator that has one
+  pub typed_at : (k : ℕ) (u : CType) (node : Node) → slice_get (nodes t) k ≡ Some node → is_declarator node.label.kind ≡ true → type_of (judgement_at (judgements_at (places t)) k) ≡ Some u → Whole t C k node u
+  typed_at k u node there d e = by (judgement_at (judgements_at (places t)) k) refl e
+    where
+      holds : (m : Meaning) → judgement_at (judgements_at (places t)) k ≡ means m → Holds k m
+      holds m g = all_known (places t) Holds (λ js other at front known. row js other at front known other.label.kind refl) k m g
+      by : (j : Judgement) → judgement_at (judgements_at (places t)) k ≡ j → type_of j ≡ Some u → Whole t C k node u
+      by (means (declares v)) g h = let same : v ≡ u = cc h in subst (λ w. Whole t C k node w) same (holds (declares v) g node there d)
+      by (means (a_type v)) g h = absurd (true≢false (sym d ∙ holds (a_type v) g node there))
+      by (means (initialized v ss cs)) g h = absurd (true≢false (sym d ∙ holds (initialized v ss cs) g node there))
+      by _ g h = absurd (cc h)
