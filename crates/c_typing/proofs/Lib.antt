@@ -40,3 +40,4 @@ pub mod MadeNames
 pub mod MadeDeclarators
 pub mod MadeFunctionNames
 pub mod MadeTexts
+pub mod MadeScopes

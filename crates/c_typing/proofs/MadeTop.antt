@@ -69,7 +69,7 @@ module _ (tokens : List Token) (t : Tree) (derived : IsTreeOf tokens t) where
           let clash : category.unit ≡ category.function = sym unit ∙ fun in
           absurd (cc clash)
 
-  unit_is_root : (n : ℕ) (m : Node) → slice_get (nodes t) n ≡ Some m → m.label.kind ≡ kind.Unit → size t.kids ≤ n
+  pub unit_is_root : (n : ℕ) (m : Node) → slice_get (nodes t) n ≡ Some m → m.label.kind ≡ kind.Unit → size t.kids ≤ n
   unit_is_root n m e f = by (or_not n (size t.kids))
     where
       or_not : (a b : ℕ) → (a < b) ⊎ (b ≤ a)
