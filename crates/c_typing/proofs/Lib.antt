@@ -41,3 +41,4 @@ pub mod MadeDeclarators
 pub mod MadeFunctionNames
 pub mod MadeTexts
 pub mod MadeScopes
+pub mod MadeDistinct

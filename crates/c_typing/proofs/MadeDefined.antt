@@ -71,7 +71,7 @@ pub record Defined (t : Tree) (f : Func) : Type 0 where
 
 module _ (t : Tree) where
   abbrev Holds : ℕ → Meaning → Type 0
-  Holds n (defines f) = Defined t f
+  Holds n (defines f) = (d : Defined t f) × (d.place ≡ n)
   Holds n m = Unit {0}
 
   free : (n : ℕ) (m : Meaning) → is_active m ≡ false → Holds n m
@@ -81,7 +81,7 @@ module _ (t : Tree) where
   defined_row : (js : List Judgement) (node : Node) → slice_get (nodes t) (length js) ≡ Some node → IsFront (places t) js → node.label.kind ≡ kind.Function → Yields (Holds (length js)) (function_node (places t) js node)
   unfolding function_node
   defined_row js node there front is = yields_given (Holds (length js)) (type_at js (kid node 0)) _ (λ base e. yields_given (Holds (length js)) (type_at js (kid node 1)) _ (λ u g. yields_given (Holds (length js)) (code_at js (kid node 2)) _
-      (λ ss h. record { place = length js; node = node; there = there; is_function = is; js = js; long = refl; front = front; name = refl; params = refl; locals = refl; type = u; typed = g; code = ss; coded = h; body = refl })))
+      (λ ss h. (record { place = length js; node = node; there = there; is_function = is; js = js; long = refl; front = front; name = refl; params = refl; locals = refl; type = u; typed = g; code = ss; coded = h; body = refl }, refl))))
 
   other_row : (js : List Judgement) (node : Node) → slice_get (nodes t) (length js) ≡ Some node → IsFront (places t) js → (k : SynKind) → node.label.kind ≡ k → (b : Bool) → is_expression_kind k ≡ b → (c : Bool) → is_statement_kind k ≡ c → b || (c || is_passive_kind k) ≡ true
       → Yields (Holds (length js)) (judged_by (places t) js node k)
@@ -95,11 +95,11 @@ module _ (t : Tree) where
   row js node there front kind.Braces e = braces_row (Holds (length js)) (λ n cs. tt) (places t) js node
   row js node there front k e = other_row js node there front k e (is_expression_kind k) refl (is_statement_kind k) refl refl
 
-  pub defined_at : (n : ℕ) (f : Func) → judgement_at (judgements_at (places t)) n ≡ means (defines f) → Defined t f
+  pub defined_at : (n : ℕ) (f : Func) → judgement_at (judgements_at (places t)) n ≡ means (defines f) → (d : Defined t f) × (d.place ≡ n)
   defined_at n f e = all_known (places t) Holds (λ js node there front known. row js node there front node.label.kind refl) n (defines f) e
 
   pub all_defined : AllByRecursion (Defined t) (filter_map defined_in (judgements_at (places t)))
-  all_defined = functions_good (Defined t) (judgements_at (places t)) defined_at
+  all_defined = functions_good (Defined t) (judgements_at (places t)) (λ n f e. (defined_at n f e).0)
 
   pub parameters_are_locals : AllByRecursion (λ (f : Func). f.params ≤ f.locals) (filter_map defined_in (judgements_at (places t)))
   parameters_are_locals = functions_more (Defined t) (λ (f : Func). f.params ≤ f.locals) (filter_map defined_in (judgements_at (places t))) (λ f d. let a = d.params in let b = d.locals in omega (arith, a, b)) all_defined

@@ -48,7 +48,7 @@ pub listed_in : (node whole : Node) (c : Scope) (f : Bool) (o : Option Entity) (
 listed_in node whole c f None y e = absurd (cc e)
 listed_in node whole c f (Some z) y e = let same : z ≡ y = cc e in inl (ap (λ (x : Entity). record { text = node.label.text; node = node.id; behind = whole.id; owner = whole.parent; scope = c; entity = x; is_function = f }) same)
 
-find_one : {A : Type 0} (f : A → Bool) (xs : List A) (x : A) → In x xs → f x ≡ true → (y : A) × (find f xs ≡ Some y)
+pub find_one : {A : Type 0} (f : A → Bool) (xs : List A) (x : A) → In x xs → f x ≡ true → (y : A) × (find f xs ≡ Some y)
 find_one f [] x h e = absurd h
 find_one {A} f (y ∷ xs) x h e = by (f y) refl h (find_one f xs x)
   where

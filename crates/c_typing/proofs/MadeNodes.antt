@@ -240,6 +240,10 @@ module _ (t : Tree) where
   unfolding root_node
   root_label = refl
 
+  pub root_first : root_node.first ≡ 0
+  unfolding root_node
+  root_first = refl
+
   pub root_last : root_node.id ≡ size t.kids
   unfolding root_node
   root_last = omega arith

@@ -1,11 +1,12 @@
 -- The nodes of a derived tree at their places, with their kids.
-use Rattle.std.proofs.Common.{◌≡◌, ℕ, ◌+◌, ◌<◌, ◌≤◌, List, [], ◌∷◌, length, Some, refl, sym, ap, ◌∙◌, subst, arith, unwrap_or}
+use Rattle.std.proofs.Common.{◌≡◌, true, zero, suc, ℕ, ◌+◌, ◌<◌, ◌≤◌, List, [], ◌∷◌, length, Some, refl, sym, ap, ◌∙◌, subst, arith, unwrap_or}
 use Rattle.std.specs.Prelude.{slice_get}
+use Rattle.std.specs.Option.{is_some}
 use Rattle.c_lexer.specs.declared.token.Token.{Token}
 use Rattle.c_syntax.specs.Trees.{Tree, one}
 use Rattle.c_syntax.specs.Tables.{table_of}
 use Rattle.c_grammar.specs.Derivation.{IsTreeOf}
-use Rattle.c_typing.specs.Places.{Node, nodes, node_at, kid, nowhere}
+use Rattle.c_typing.specs.Places.{Node, nodes, node_at, kid, has_kid, nowhere}
 use Rattle.c_typing.specs.Shapes.{categories_of}
 use Rattle.c_typing.proofs.ShapesNodes.{node_placed}
 use Rattle.c_typing.proofs.MadeNodes.{In, in_at, at_in, IsKid, kid_of, nested, kid_within}
@@ -47,3 +48,13 @@ module _ (tokens : List Token) (t : Tree) (derived : IsTreeOf tokens t) where
   kid_in n m i e lt =
       let most = kids_enough (categories_of (table_of t)) m (node_placed tokens t derived n m e).fits.kids in
       in_kids m i (omega (arith, lt, most))
+
+  pub kid_has : (n : ℕ) (m : Node) (i : ℕ) → slice_get (nodes t) n ≡ Some m → i < least_kids m.label.kind → has_kid m i ≡ true
+  kid_has n m i e lt =
+      let most = kids_enough (categories_of (table_of t)) m (node_placed tokens t derived n m e).fits.kids in
+      some m.kids i (omega (arith, lt, most))
+    where
+      some : (ks : List ℕ) (j : ℕ) → j < length ks → is_some (slice_get ks j) ≡ true
+      some [] j h = absurd (omega (arith, h))
+      some (k ∷ ks) zero h = refl
+      some (k ∷ ks) (suc j) h = some ks j (omega (arith, h))

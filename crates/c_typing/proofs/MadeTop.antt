@@ -98,7 +98,7 @@ module _ (tokens : List Token) (t : Tree) (derived : IsTreeOf tokens t) where
       let parent_root = is_root m.parent p.parent p.found most in
       ap (λ (y : Node). y.label.kind) (root ∙ sym parent_root) ∙ unit
 
-  abbrev is_unit_category : Category → Bool
+  abbrev pub is_unit_category : Category → Bool
   is_unit_category category.unit = true
   is_unit_category c = false
 
@@ -122,7 +122,7 @@ module _ (tokens : List Token) (t : Tree) (derived : IsTreeOf tokens t) where
   word_no_unit false true e = true≢false (sym e)
   word_no_unit false false e = true≢false (sym e)
 
-  unit_kind : (k : SynKind) (text : List ℕ) (cs : List Category) → is_unit_category (category_by k text cs) ≡ true → k ≡ kind.Unit
+  pub unit_kind : (k : SynKind) (text : List ℕ) (cs : List Category) → is_unit_category (category_by k text cs) ≡ true → k ≡ kind.Unit
   unfolding category_by
   unit_kind kind.Unit text cs e = refl
   unit_kind kind.Pointer text cs e = absurd (over_no_unit cs e)

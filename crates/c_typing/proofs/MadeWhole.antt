@@ -42,12 +42,12 @@ last_is {A} f (x ∷ xs) (suc n) m o e g h = by (f x) (λ p. last_is f xs n m p 
     by false more = more o
 
 -- a category of what begins with a name
-abbrev begins_named : Category → Bool
+abbrev pub begins_named : Category → Bool
 begins_named category.declarator = true
 begins_named category.init_declarator = true
 begins_named c = false
 
-named_so : (c : Category) (k : SynKind) → k ≡ kind.Ident → begins_with c k ≡ true → begins_named c ≡ true
+pub named_so : (c : Category) (k : SynKind) → k ≡ kind.Ident → begins_with c k ≡ true → begins_named c ≡ true
 unfolding begins_with
 named_so category.declarator k e h = refl
 named_so category.init_declarator k e h = refl
