@@ -42,3 +42,4 @@ pub mod MadeFunctionNames
 pub mod MadeTexts
 pub mod MadeScopes
 pub mod MadeDistinct
+pub mod MadeOnce
