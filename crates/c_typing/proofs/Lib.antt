@@ -43,3 +43,4 @@ pub mod MadeTexts
 pub mod MadeScopes
 pub mod MadeDistinct
 pub mod MadeOnce
+pub mod MadeChains

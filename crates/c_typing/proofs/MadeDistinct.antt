@@ -47,7 +47,7 @@ no_body kind.For e f = true≢false (sym e)
 no_body kind.Switch e f = true≢false (sym e)
 no_body _ e f = true≢false (sym f)
 
-three_ways : (a b : ℕ) → (a < b) ⊎ ((a ≡ b) ⊎ (b < a))
+pub three_ways : (a b : ℕ) → (a < b) ⊎ ((a ≡ b) ⊎ (b < a))
 three_ways a b = grind arith
 
 module _ (tokens : List Token) (t : Tree) (derived : IsTreeOf tokens t) where

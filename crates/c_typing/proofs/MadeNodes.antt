@@ -205,6 +205,36 @@ kids_ascend n first parent (tree label kids rest) h = elim (place n first parent
     | root e ↦ subst (λ (y : Node). Ascends y.kids) e (roots_ascend first kids)
     | behind a ↦ kids_ascend n (first + size kids + 1) parent rest a ]
 
+-- a node without kids, and the first kid of another
+no_roots : (first : ℕ) (f : Forest) → numbers (roots first f) ≡ [] → size f ≡ 0
+no_roots first none e = refl
+no_roots first (tree label kids rest) e = absurd (cc e)
+
+leaf : (n : Node) (first parent : ℕ) (f : Forest) → In n (nodes_of first parent f) → n.kids ≡ [] → n.first ≡ n.id
+leaf n first parent none h e = absurd h
+leaf n first parent (tree label kids rest) h e = elim (place n first parent label kids rest h) [
+    below a ↦ leaf n first (first + size kids) kids a e
+    | root g ↦ (let same : first ≡ n.first = ap (λ (y : Node). y.first) g in
+        let id : first + size kids ≡ n.id = ap (λ (y : Node). y.id) g in
+        let none_below : size kids ≡ 0 = no_roots first kids (ap (λ (y : Node). y.kids) g ∙ e) in
+        omega (arith, same, id, none_below))
+    | behind a ↦ leaf n (first + size kids + 1) parent rest a e ]
+
+begin_there : (first parent : ℕ) (f : Forest) (k : ℕ) (ks : List ℕ) → numbers (roots first f) ≡ k ∷ ks → (m : Node) × In m (nodes_of first parent f) × (m.id ≡ k) × (m.first ≡ first)
+begin_there first parent none k ks e = absurd (cc e)
+begin_there first parent (tree label kids rest) k ks e =
+    let same : first + size kids ≡ k = cc e in
+    (own first parent label kids, in_back (own first parent label kids) (nodes_of first (first + size kids) kids) (own first parent label kids ∷ nodes_of (first + size kids + 1) parent rest) (inl refl), same, refl)
+
+first_there : (n : Node) (first parent : ℕ) (f : Forest) (k : ℕ) (ks : List ℕ) → In n (nodes_of first parent f) → n.kids ≡ k ∷ ks → (m : Node) × In m (nodes_of first parent f) × (m.id ≡ k) × (m.first ≡ n.first)
+first_there n first parent none k ks h e = absurd h
+first_there n first parent (tree label kids rest) k ks h e = elim (place n first parent label kids rest h) [
+    below a ↦ (let r = first_there n first (first + size kids) kids k ks a e in (r.0, in_front r.0 (nodes_of first (first + size kids) kids) (own first parent label kids ∷ nodes_of (first + size kids + 1) parent rest) r.1, r.2, r.3))
+    | root g ↦ (let r = begin_there first (first + size kids) kids k ks (ap (λ (y : Node). y.kids) g ∙ e) in
+        (r.0, in_front r.0 (nodes_of first (first + size kids) kids) (own first parent label kids ∷ nodes_of (first + size kids + 1) parent rest) r.1, r.2, r.3 ∙ ap (λ (y : Node). y.first) g))
+    | behind a ↦ (let r = first_there n (first + size kids + 1) parent rest k ks a e in
+        (r.0, in_back r.0 (nodes_of first (first + size kids) kids) (own first parent label kids ∷ nodes_of (first + size kids + 1) parent rest) (inr r.1), r.2, r.3)) ]
+
 -- ---- those of a tree
 
 module _ (t : Tree) where
@@ -250,3 +280,9 @@ module _ (t : Tree) where
 
   pub crossed : (x y : Node) → In x all → In y all → x.first ≤ y.id → y.id < x.id → x.first ≤ y.first
   crossed x y h i low high = cross x y 0 (size (one t)) (one t) h i low high
+
+  pub leaf_first : (n : Node) → In n all → n.kids ≡ [] → n.first ≡ n.id
+  leaf_first n h e = leaf n 0 (size (one t)) (one t) h e
+
+  pub first_kid : (n : Node) (k : ℕ) (ks : List ℕ) → In n all → n.kids ≡ k ∷ ks → (m : Node) × In m all × (m.id ≡ k) × (m.first ≡ n.first)
+  first_kid n k ks h e = first_there n 0 (size (one t)) (one t) k ks h e
