@@ -44,3 +44,4 @@ pub mod MadeScopes
 pub mod MadeDistinct
 pub mod MadeOnce
 pub mod MadeChains
+pub mod MadeMain

@@ -64,7 +64,7 @@ module _ (tokens : List Token) (t : Tree) (derived : IsTreeOf tokens t) where
     kid_inside = kid_in tokens t derived n node 1 at (subst (λ l. 1 < least_kids l) (sym is) (omega arith))
 
     -- what is larger than the declarator of a function is the function, or the unit
-    larger : (x : Node) → In x (nodes t) → x.first ≤ f.low.first → f.low.id < x.id → (x.label.kind ≡ kind.Function) ⊎ (x.label.kind ≡ kind.Unit)
+    pub larger : (x : Node) → In x (nodes t) → x.first ≤ f.low.first → f.low.id < x.id → (x.label.kind ≡ kind.Function) ⊎ (x.label.kind ≡ kind.Unit)
     larger x h low lt =
         let up = node_bounds t f.low low_in in
         let id = numbered tokens t derived (kid node 1) f.low f.there in

@@ -180,14 +180,14 @@ module _ (tokens : List Token) (t : Tree) (derived : IsTreeOf tokens t) where
   no_chains = record { name = λ node h e. tt; step = λ node low ss st a b e h. tt; takes = λ node low ss us a b e l h. tt; parentheses = λ node low ss a b e h. tt }
 
   function_kept : (p : Places) (js : List Judgement) (node : Node) (u : CType) (o : Option Name) (name : Name) (k : SynKind) → k ≡ kind.Function → o ≡ Some name → name.entity ≡ function_name → whole_by p js node u o k ≡ []
-      → declared_faults p js name u node.id true function_name ≡ []
+      → (is_some (own_takes p.nodes (parent_of p.nodes node.id)) ≡ true) × (declared_faults p js name u node.id true function_name ≡ [])
   function_kept p js node u o name k is same entity kept = by (is_some (own_takes p.nodes (parent_of p.nodes node.id))) refl
     where
       at : whole_by p js node u (Some name) kind.Function ≡ []
       at = subst (λ q. whole_by p js node u (Some name) q ≡ []) is (subst (λ q. whole_by p js node u q k ≡ []) same kept)
-      by : (b : Bool) → is_some (own_takes p.nodes (parent_of p.nodes node.id)) ≡ b → declared_faults p js name u node.id true function_name ≡ []
+      by : (b : Bool) → is_some (own_takes p.nodes (parent_of p.nodes node.id)) ≡ b → (is_some (own_takes p.nodes (parent_of p.nodes node.id)) ≡ true) × (declared_faults p js name u node.id true function_name ≡ [])
       by true g = let opened : declared_faults p js name u node.id true name.entity ≡ [] = subst (λ b. (if b then declared_faults p js name u node.id true name.entity else not_a_function false node.id) ≡ []) g at in
-          subst (λ q. declared_faults p js name u node.id true q ≡ []) entity opened
+          (g, subst (λ q. declared_faults p js name u node.id true q ≡ []) entity opened)
       by false g = let shut : not_a_function false node.id ≡ [] = subst (λ b. (if b then declared_faults p js name u node.id true name.entity else not_a_function false node.id) ≡ []) g at in absurd (cc shut)
 
   -- the type of a function, and its declaration without faults
@@ -196,6 +196,8 @@ module _ (tokens : List Token) (t : Tree) (derived : IsTreeOf tokens t) where
     pub whole : Whole t C (kid d.node 1) names.low d.type
     pub found : name_of (places t) names.low.first ≡ Some names.name
     pub kept : declared_faults (places t) whole.js names.name d.type names.low.id true function_name ≡ []
+    pub has_takes : is_some (own_takes (nodes t) d.node) ≡ true
+    pub of_function : (parent_of (nodes t) names.low.id).label.kind ≡ kind.Function
 
   pub kept_of : (C : Node → List PlacedStep → Type 0) → Chains t C → (f : Func) (d : Defined t f) → Kept C f d
   kept_of C c f d =
@@ -206,11 +208,14 @@ module _ (tokens : List Token) (t : Tree) (derived : IsTreeOf tokens t) where
       let parent : parent_of (nodes t) n.low.id ≡ d.node =
       ap (λ (x : Node). node_at (nodes t) x.parent) (node_there tokens t derived n.low.id n.low (subst (λ i. slice_get (nodes t) i ≡ Some n.low) (sym (numbered tokens t derived (kid d.node 1) n.low n.there)) n.there))
       ∙ (ap (λ i. node_at (nodes t) i) (n.parent ∙ numbered tokens t derived d.place d.node d.there) ∙ node_there tokens t derived d.place d.node d.there) in
+      let both = function_kept (places t) w.js n.low d.type (name_of (places t) n.low.first) n.name (parent_of (nodes t) n.low.id).label.kind (ap (λ (x : Node). x.label.kind) parent ∙ d.is_function) same n.entity w.kept in
       record {
         names = n;
         whole = w;
         found = same;
-        kept = function_kept (places t) w.js n.low d.type (name_of (places t) n.low.first) n.name (parent_of (nodes t) n.low.id).label.kind (ap (λ (x : Node). x.label.kind) parent ∙ d.is_function) same n.entity w.kept;
+        kept = both.1;
+        has_takes = subst (λ (x : Node). is_some (own_takes (nodes t) x) ≡ true) parent both.0;
+        of_function = ap (λ (x : Node). x.label.kind) parent ∙ d.is_function;
       }
     where
       later : (js : List Judgement) (k : ℕ) → IsFront (places t) js → type_at js k ≡ Some d.type → type_of (judgement_at (judgements_at (places t)) k) ≡ Some d.type
