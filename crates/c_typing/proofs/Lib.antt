@@ -45,3 +45,4 @@ pub mod MadeDistinct
 pub mod MadeOnce
 pub mod MadeChains
 pub mod MadeMain
+pub mod MadeForming

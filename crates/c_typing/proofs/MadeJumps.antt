@@ -182,7 +182,7 @@ module _ (tokens : List Token) (t : Tree) (derived : IsTreeOf tokens t) where
   closes : Closes t AnyTyping Any Ends Free Whole AnyLabel
   unfolding in_loop in_either
   closes = record {
-    value = λ n x h g. tt;
+    value = λ n x h j g. tt;
     higher = λ n k node e there f i h. tt;
     converted = λ n from to e h. tt;
     outer = λ n k node s there f g i h. outer n k node s there g i h;

@@ -20,7 +20,7 @@ use Rattle.c_typing.specs.Rules.{outside_a_loop, bad_initializer}
 use Rattle.c_typing.specs.Initializers.{Part, sole_value, initial_code, object_code, bare_code, is_object, initialized_object, init_by, init_declarator}
 use Rattle.c_typing.specs.Statements.{does, as_one, block_of, statement_at, declaration, declarator_code, block_node, expression_statement, empty_statement, if_statement, while_statement, do_statement, part_by, for_part, code_in, first_by, for_statement, is_inside, break_statement, continue_statement, return_by, return_statement, switch_statement, case_label, default_label}
 use Rattle.c_typing.specs.Typing.{function_node, judged_by, judgements_at}
-use Rattle.c_typing.proofs.MadeJudged.{Yields, yields_verdict, yields_besides, yields_given, IsFront, Known, Step, all_known}
+use Rattle.c_typing.proofs.MadeJudged.{Yields, yields_verdict, yields_besides, yields_given, IsFront, Known, Step, all_known, meant_later}
 use Rattle.c_typing.proofs.MadeNodes.{In}
 use Rattle.c_typing.proofs.MadeForms.{is_active, is_passive_kind, yields_if, yields_if_so, passive_row, braces_row, struct_row}
 use Rattle.c_typing.proofs.MadeParts.{least_kids, in_kids_where, in_others, typing_meant, code_meant, statement_meant, initialized_meant, all_parts, all_joined}
@@ -82,7 +82,7 @@ module _ (t : Tree) (X : ℕ → Typing → ℕ → Type 0) (V : ℕ → Expr �
 
   -- it holds of what is made of parts of which it holds
   pub record Closes : Type 0 where
-    pub value : (n : ℕ) (x : Typing) (h : ℕ) → X n x h → V n (value_of x).code
+    pub value : (n : ℕ) (x : Typing) (h : ℕ) → judgement_at (judgements_at (places t)) n ≡ means (expresses x h) → X n x h → V n (value_of x).code
     pub higher : (n k : ℕ) (node : Node) (e : Expr) → slice_get (nodes t) n ≡ Some node → is_code_kind node.label.kind ≡ true → In k node.kids → V k e → V n e
     pub converted : (n : ℕ) (from to : CType) (e : Expr) → V n e → V n (converted_code from to e)
     pub outer : (n k : ℕ) (node : Node) (s : Stmt) → slice_get (nodes t) n ≡ Some node → is_code_kind node.label.kind ≡ true → ends_jumps node.label.kind ≡ false → In k node.kids → S k s → S n s
@@ -131,11 +131,14 @@ module _ (t : Tree) (X : ℕ → Typing → ℕ → Type 0) (V : ℕ → Expr �
     all_plain k [] h = tt
     all_plain k (s ∷ ss) h = (c.plain k s h.0, all_plain k ss h.1)
 
+    later : (k : ℕ) (m : Meaning) → judgement_at js k ≡ means m → judgement_at (judgements_at (places t)) k ≡ means m
+    later k m e = ap (λ q. judgement_at q k) front.1 ∙ meant_later js front.0 k m e
+
     -- the value of a kid
     value_at : (k : ℕ) (x : Typing) → is_code_kind node.label.kind ≡ true → In k node.kids → typing_at js k ≡ Some x → V (length js) (value_of x).code
     value_at k x a i e =
         let m = typing_meant (judgement_at js k) x e in
-        c.higher (length js) k node (value_of x).code there a i (c.value k x m.0 (known k (expresses x m.0) m.1))
+        c.higher (length js) k node (value_of x).code there a i (c.value k x m.0 (later k (expresses x m.0) m.1) (known k (expresses x m.0) m.1))
 
     statement_of : (k : ℕ) (s : Stmt) → statement_at js k ≡ Some s → S k s
     statement_of k s e =
@@ -310,23 +313,23 @@ module _ (t : Tree) (X : ℕ → Typing → ℕ → Type 0) (V : ℕ → Expr �
     -- ---- declarators with their initializers
 
     init_value : (a : Name) → node.label.kind ≡ kind.InitDecl → name_of (places t) (node_at (nodes t) (kid node 0)).first ≡ Some a → a.entity ≡ automatic → (k : ℕ) → In k node.kids → (u : CType)
-        → (x : Typing) → (h : ℕ) → X k x h → Q (length js) (drop_expr (set_local (local_number (places t) a) (converted_to u (value_of x))))
-    init_value a e f g k i u x h m = c.dropped (length js) (set_local (local_number (places t) a) (converted_to u (value_of x)))
+        → (x : Typing) → (h : ℕ) → judgement_at (judgements_at (places t)) k ≡ means (expresses x h) → X k x h → Q (length js) (drop_expr (set_local (local_number (places t) a) (converted_to u (value_of x))))
+    init_value a e f g k i u x h l m = c.dropped (length js) (set_local (local_number (places t) a) (converted_to u (value_of x)))
         (c.set (length js) node a (converted_to u (value_of x)) there e f g (c.converted (length js) (value_of x).type u (value_of x).code
-        (c.higher (length js) k node (value_of x).code there (code_kind kind.InitDecl e refl) i (c.value k x h m))))
+        (c.higher (length js) k node (value_of x).code there (code_kind kind.InitDecl e refl) i (c.value k x h l m))))
 
     -- a value stands in braces, or alone
     sole : (a : Name) → node.label.kind ≡ kind.InitDecl → name_of (places t) (node_at (nodes t) (kid node 0)).first ≡ Some a → a.entity ≡ automatic → (k : ℕ) → In k node.kids → (u : CType)
         → (b : Bool) → is_braces (kind_at (nodes t) k) ≡ b → (x : Typing) → typing_at js (if b then kid (node_at (nodes t) k) 0 else k) ≡ Some x
         → Q (length js) (drop_expr (set_local (local_number (places t) a) (converted_to u (value_of x))))
-    sole a e f g k i u false h x m = let m2 = typing_meant (judgement_at js k) x m in init_value a e f g k i u x m2.0 (known k (expresses x m2.0) m2.1)
+    sole a e f g k i u false h x m = let m2 = typing_meant (judgement_at js k) x m in init_value a e f g k i u x m2.0 (later k (expresses x m2.0) m2.1) (known k (expresses x m2.0) m2.1)
     sole a e f g k i u true h x m =
         let m2 = typing_meant (judgement_at js (kid (node_at (nodes t) k) 0)) x m in
         let low = kid_found tokens t derived (length js) node k there i in
         let is : node_at (nodes t) k ≡ low.node = node_there tokens t derived k low.node low.there in
         let braced : low.node.label.kind ≡ kind.Braces = braces_are low.node.label.kind (subst (λ (l : Node). is_braces l.label.kind ≡ true) is h) in
         let inner : In (kid low.node 0) low.node.kids = kid_in tokens t derived k low.node 0 low.there (subst (λ l. 0 < least_kids l) (sym braced) (omega arith)) in
-        let v : V (kid low.node 0) (value_of x).code = subst (λ (l : Node). V (kid l 0) (value_of x).code) is (c.value (kid (node_at (nodes t) k) 0) x m2.0 (known (kid (node_at (nodes t) k) 0) (expresses x m2.0) m2.1)) in
+        let v : V (kid low.node 0) (value_of x).code = subst (λ (l : Node). V (kid l 0) (value_of x).code) is (c.value (kid (node_at (nodes t) k) 0) x m2.0 (later (kid (node_at (nodes t) k) 0) (expresses x m2.0) m2.1) (known (kid (node_at (nodes t) k) 0) (expresses x m2.0) m2.1)) in
         c.dropped (length js) (set_local (local_number (places t) a) (converted_to u (value_of x)))
         (c.set (length js) node a (converted_to u (value_of x)) there e f g (c.converted (length js) (value_of x).type u (value_of x).code
         (c.higher (length js) k node (value_of x).code there (code_kind kind.InitDecl e refl) i
