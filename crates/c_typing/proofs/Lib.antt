@@ -46,3 +46,4 @@ pub mod MadeOnce
 pub mod MadeChains
 pub mod MadeMain
 pub mod MadeForming
+pub mod MadeCode

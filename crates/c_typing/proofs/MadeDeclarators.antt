@@ -60,7 +60,7 @@ steps_meant : (j : Judgement) (ss : List PlacedStep) → steps_of j ≡ Some ss 
 steps_meant (means (steps rs)) ss e = let same : rs ≡ ss = cc e in ap (λ z. means (steps z)) same
 steps_meant _ ss e = absurd (cc e)
 
-all_long : {A : Type 0} (os : List (Option A)) (xs : List A) → all_of os ≡ Some xs → length xs ≡ length os
+pub all_long : {A : Type 0} (os : List (Option A)) (xs : List A) → all_of os ≡ Some xs → length xs ≡ length os
 all_long [] xs e = let same : [] ≡ xs = cc e in ap length (sym same)
 all_long (None ∷ os) xs e = absurd (cc e)
 all_long {A} (Some a ∷ os) xs e = by (all_of os) (all_long os) refl e
@@ -69,7 +69,7 @@ all_long {A} (Some a ∷ os) xs e = by (all_of os) (all_long os) refl e
     by None more g h = absurd (cc h)
     by (Some ys) more g h = let same : a ∷ ys ≡ xs = cc h in ap length (sym same) ∙ ap suc (more ys refl)
 
-long-map : {A B : Type 0} (f : A → B) (xs : List A) → length (map f xs) ≡ length xs
+pub long-map : {A B : Type 0} (f : A → B) (xs : List A) → length (map f xs) ≡ length xs
 long-map f [] = refl
 long-map f (x ∷ xs) = ap suc (long-map f xs)
 
