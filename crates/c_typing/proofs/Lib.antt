@@ -47,3 +47,4 @@ pub mod MadeChains
 pub mod MadeMain
 pub mod MadeForming
 pub mod MadeCode
+pub mod MadeEverywhere
