@@ -48,3 +48,5 @@ pub mod MadeMain
 pub mod MadeForming
 pub mod MadeCode
 pub mod MadeEverywhere
+pub mod MadeKept
+pub mod MadeObjects

@@ -31,13 +31,13 @@ first_is {A} f (x ∷ xs) (suc n) m e g h = by (f x) refl (first_is f xs n m e g
     by true i more = absurd (h 0 x (omega arith) refl i)
     by false i more = more
 
-no_kids : (k : SynKind) (text : List ℕ) (cs : List Category) → (k ≡ kind.Ident) ⊎ (k ≡ kind.NoName) → kids_fit k text cs ≡ true → cs ≡ []
+pub no_kids : (k : SynKind) (text : List ℕ) (cs : List Category) → (k ≡ kind.Ident) ⊎ (k ≡ kind.NoName) → kids_fit k text cs ≡ true → cs ≡ []
 unfolding kids_fit
 no_kids k text [] h e = refl
 no_kids k text (c ∷ cs) (inl is) e = absurd (true≢false (sym (subst (λ l. kids_fit l text (c ∷ cs) ≡ true) is e)))
 no_kids k text (c ∷ cs) (inr is) e = absurd (true≢false (sym (subst (λ l. kids_fit l text (c ∷ cs) ≡ true) is e)))
 
-none_placed : (known : List Category) (ks : List ℕ) → at_places known (map as_id ks) ≡ [] → ks ≡ []
+pub none_placed : (known : List Category) (ks : List ℕ) → at_places known (map as_id ks) ≡ [] → ks ≡ []
 none_placed known [] e = refl
 none_placed known (k ∷ ks) e = absurd (cc e)
 

@@ -27,7 +27,7 @@ use Rattle.c_typing.proofs.MadeFunctionNames.{FunctionName, Kept, kept_of, Anyth
 use Rattle.c_typing.proofs.MadeTexts.{faultless, text_is}
 use Rattle.c_typing.proofs.MadeDistinct.{in_file_scope}
 
-filter_in : {A : Type 0} (f : A → Bool) (xs : List A) (x : A) → In x xs → f x ≡ true → In x (filter f xs)
+pub filter_in : {A : Type 0} (f : A → Bool) (xs : List A) (x : A) → In x xs → f x ≡ true → In x (filter f xs)
 filter_in f [] x h e = absurd h
 filter_in {A} f (y ∷ xs) x h e = by (f y) refl h (filter_in f xs x)
   where
