@@ -50,3 +50,4 @@ pub mod MadeCode
 pub mod MadeEverywhere
 pub mod MadeKept
 pub mod MadeObjects
+pub mod MadeNamed
