@@ -51,3 +51,5 @@ pub mod MadeEverywhere
 pub mod MadeKept
 pub mod MadeObjects
 pub mod MadeNamed
+pub mod MadeInner
+pub mod MadeInside

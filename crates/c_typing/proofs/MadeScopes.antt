@@ -29,13 +29,13 @@ pub data ScopeAt (t : Tree) (c : Scope) (n : ℕ) : Type 0 where
   of_body : (x : Node) → In x (nodes t) → is_body x.label.kind ≡ true → x.first ≤ n → n ≤ x.id → ScopeAt t c n
   of_parameters : (x : Node) → In x (nodes t) → x.label.kind ≡ kind.Takes → kid x 0 < n → n ≤ x.id → ScopeAt t c n
 
-scopes_in : (s ns : List Node) (c : Scope) → In c (scopes_from s ns) → (x : Node) × In x ns × In c (scope_by s x x.label.kind)
+pub scopes_in : (s ns : List Node) (c : Scope) → In c (scopes_from s ns) → (x : Node) × In x ns × In c (scope_by s x x.label.kind)
 scopes_in s [] c h = absurd h
 scopes_in s (x ∷ ns) c h = elim (in_either c (scope_by s x x.label.kind) (scopes_from s ns) h) [
     inl a ↦ (x, inl refl, a)
     | inr b ↦ (let m = scopes_in s ns c b in (m.0, inr m.1, m.2)) ]
 
-plain_so : (x : Node) (from n : ℕ) (c : Scope) → In c (plain_scope x from) → in_scope c n ≡ true → (c.owner ≡ x.id) × (from ≤ n) × (n ≤ x.id)
+pub plain_so : (x : Node) (from n : ℕ) (c : Scope) → In c (plain_scope x from) → in_scope c n ≡ true → (c.owner ≡ x.id) × (from ≤ n) × (n ≤ x.id)
 plain_so x from n c (inl e) h =
     let at : in_scope (record { owner = x.id; from = from; to = x.id; block_from = 1; block_to = 0 }) n ≡ true = subst (λ (d : Scope). in_scope d n ≡ true) (sym e) h in
     let range = within (nat_le from n && nat_le n x.id) (nat_le 1 n) (nat_le n 0) refl refl at in
@@ -75,7 +75,7 @@ module _ (tokens : List Token) (t : Tree) (derived : IsTreeOf tokens t) where
           of_parameters takes q.among q.kind_is (omega (arith, low)) (low_so n takes.id b.1)
       by false k q at = let b = both_true (nat_le x.first n) (nat_le n x.id) at in of_body x h (ap is_body e) (low_so x.first n b.0) (low_so n x.id b.1)
 
-  switch_from : (x : Node) → In x (nodes t) → x.label.kind ≡ kind.Switch → x.first ≤ kid x 0
+  pub switch_from : (x : Node) → In x (nodes t) → x.label.kind ≡ kind.Switch → x.first ≤ kid x 0
   switch_from x h e = (kid_within t x (kid x 0) h (kid_in tokens t derived x.id x 0 (found tokens t derived x h) (subst (λ l. 0 < least_kids l) (sym e) (omega arith)))).0
 
   scope_so : (x : Node) → In x (nodes t) → (k : SynKind) → x.label.kind ≡ k → (n : ℕ) (c : Scope) → In c (scope_by (nodes t) x k) → in_scope c n ≡ true → ScopeAt t c n
