@@ -53,3 +53,6 @@ pub mod MadeObjects
 pub mod MadeNamed
 pub mod MadeInner
 pub mod MadeInside
+pub mod MadeHidden
+pub mod MadeParameters
+pub mod MadeLists

@@ -34,14 +34,14 @@ use Rattle.c_typing.proofs.MadeDefined.{Defined, defined_at}
 use Rattle.c_typing.proofs.MadeFunctionNames.{FunctionName, Kept, kept_of, find_one, Anything, no_chains}
 use Rattle.c_typing.proofs.MadeTexts.{faultless, text_is}
 
-body_unnamed : (k : SynKind) (text : List ℕ) (cs : List Category) → is_body k ≡ true → begins_named (category_by k text cs) ≡ false
+pub body_unnamed : (k : SynKind) (text : List ℕ) (cs : List Category) → is_body k ≡ true → begins_named (category_by k text cs) ≡ false
 unfolding category_by
 body_unnamed kind.Block text cs e = refl
 body_unnamed kind.For text cs e = refl
 body_unnamed kind.Switch text cs e = refl
 body_unnamed k text cs e = absurd (true≢false (sym e))
 
-no_body : (k : SynKind) → is_declarator k ≡ true → is_body k ≡ true → ⊥
+pub no_body : (k : SynKind) → is_declarator k ≡ true → is_body k ≡ true → ⊥
 no_body kind.Block e f = true≢false (sym e)
 no_body kind.For e f = true≢false (sym e)
 no_body kind.Switch e f = true≢false (sym e)

@@ -38,7 +38,7 @@ unfolding kids_fit
 second_kid text (category.specifiers ∷ category.declarator ∷ category.block ∷ []) e = refl
 second_kid text cs e = absurd (true≢false (sym e))
 
-place_known : (known : List Category) (ks : List ℕ) (i : ℕ) (c : Category) → slice_get (at_places known (map as_id ks)) i ≡ Some c → get_or known (unwrap_or (slice_get ks i) 0) no_category ≡ c
+pub place_known : (known : List Category) (ks : List ℕ) (i : ℕ) (c : Category) → slice_get (at_places known (map as_id ks)) i ≡ Some c → get_or known (unwrap_or (slice_get ks i) 0) no_category ≡ c
 place_known known [] i c e = absurd (cc e)
 place_known known (k ∷ ks) zero c e = cc e
 place_known known (k ∷ ks) (suc i) c e = place_known known ks i c e

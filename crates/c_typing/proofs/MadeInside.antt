@@ -100,7 +100,7 @@ module _ (tokens : List Token) (t : Tree) (derived : IsTreeOf tokens t) (m : ℕ
 
   -- ---- the function around what stands in it
 
-  holds_so : (g : Node) (n : ℕ) → In g (nodes t) → g.label.kind ≡ kind.Function → holds g n ≡ true → fn.first ≤ n → n < fn.id → g ≡ fn
+  pub holds_so : (g : Node) (n : ℕ) → In g (nodes t) → g.label.kind ≡ kind.Function → holds g n ≡ true → fn.first ≤ n → n < fn.id → g ≡ fn
   holds_so g n h e at from to = by (three_ways g.id fn.id)
     where
       b : (nat_le g.first n ≡ true) × (nat_le n g.id ≡ true)

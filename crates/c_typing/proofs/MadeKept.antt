@@ -65,7 +65,7 @@ module _ (tokens : List Token) (t : Tree) (derived : IsTreeOf tokens t) where
     pub behind : x.behind ≡ low.id
     pub owner : x.owner ≡ low.parent
 
-  low_by : (x : Name) (m : Node) (place : ℕ) → slice_get (nodes t) place ≡ Some m → x.node ≡ m.id → m.label.kind ≡ kind.Ident → x.behind ≡ (whole_declarator (nodes t) m.id).id → x.owner ≡ (whole_declarator (nodes t) m.id).parent → Low x
+  pub low_by : (x : Name) (m : Node) (place : ℕ) → slice_get (nodes t) place ≡ Some m → x.node ≡ m.id → m.label.kind ≡ kind.Ident → x.behind ≡ (whole_declarator (nodes t) m.id).id → x.owner ≡ (whole_declarator (nodes t) m.id).parent → Low x
   low_by x m place at same is behind owner = by (last_there (filter (in_declarator m.id) (nodes t)) m None listed)
     where
       id : m.id ≡ place
