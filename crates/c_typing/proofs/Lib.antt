@@ -56,3 +56,4 @@ pub mod MadeInside
 pub mod MadeHidden
 pub mod MadeParameters
 pub mod MadeLists
+pub mod MadeOwn

@@ -114,7 +114,7 @@ module _ (tokens : List Token) (t : Tree) (derived : IsTreeOf tokens t) where
     pub whole : Whole t C names.low.id names.low type
     pub kept : declared_faults (places t) whole.js x type names.low.id false x.entity ≡ []
 
-  declarator_so : (c : Category) → begins_named c ≡ true → (c ≡ category.init_declarator → ⊥) → c ≡ category.declarator
+  pub declarator_so : (c : Category) → begins_named c ≡ true → (c ≡ category.init_declarator → ⊥) → c ≡ category.declarator
   declarator_so category.declarator e h = refl
   declarator_so category.init_declarator e h = absurd (h refl)
   declarator_so _ e h = absurd (true≢false (sym e))

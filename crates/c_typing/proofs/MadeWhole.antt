@@ -53,7 +53,7 @@ named_so category.declarator k e h = refl
 named_so category.init_declarator k e h = refl
 named_so c k e h = absurd (true≢false (sym (subst (λ l. begins_with c l ≡ true) e h)))
 
-name_so : (k : SynKind) → is_name k ≡ true → k ≡ kind.Ident
+pub name_so : (k : SynKind) → is_name k ≡ true → k ≡ kind.Ident
 name_so kind.Ident e = refl
 name_so _ e = absurd (true≢false (sym e))
 
