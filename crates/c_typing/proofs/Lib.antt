@@ -57,3 +57,4 @@ pub mod MadeHidden
 pub mod MadeParameters
 pub mod MadeLists
 pub mod MadeOwn
+pub mod MadeParameter

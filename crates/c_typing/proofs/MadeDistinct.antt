@@ -78,7 +78,7 @@ module _ (tokens : List Token) (t : Tree) (derived : IsTreeOf tokens t) where
         by (inr (inl same)) wide from = inl (ap (λ (y : Node). y.label.kind) (sym (same_id node x (in_at node (nodes t) n at) h same)) ∙ is)
         by (inr (inr more)) wide from = absurd (omega (arith, wide, more))
 
-    no_body_around : (x : Node) → In x (nodes t) → is_body x.label.kind ≡ true → x.first ≤ f.low.first → f.low.first ≤ x.id → ⊥
+    pub no_body_around : (x : Node) → In x (nodes t) → is_body x.label.kind ≡ true → x.first ≤ f.low.first → f.low.first ≤ x.id → ⊥
     no_body_around x h b low high = by (three_ways f.low.id x.id)
       where
         by : (f.low.id < x.id) ⊎ ((f.low.id ≡ x.id) ⊎ (x.id < f.low.id)) → ⊥

@@ -83,7 +83,7 @@ module _ (tokens : List Token) (t : Tree) (derived : IsTreeOf tokens t) where
   kid_of_parent : (n : ℕ) (x : Node) → slice_get (nodes t) n ≡ Some x → (p : HasParent t n x) → In n p.parent.kids
   kid_of_parent n x at p = subst (λ ks. In n ks) (sym p.among) (in_back n p.front (n ∷ p.back) (inl refl))
 
-  listed_by : (e : Name) (l : Low tokens t derived e) → (node_at (nodes t) e.owner).label.kind ≡ kind.Param → Listed e
+  pub listed_by : (e : Name) (l : Low tokens t derived e) → (node_at (nodes t) e.owner).label.kind ≡ kind.Param → Listed e
   listed_by e l o = second
     where
       p : HasParent t l.low.id l.low

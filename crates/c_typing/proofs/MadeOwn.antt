@@ -153,7 +153,7 @@ module _ (tokens : List Token) (t : Tree) (derived : IsTreeOf tokens t) (e : Nam
       over false false h = absurd (true≢false (sym h))
   block_kind k text cs h = absurd (true≢false (sym h))
 
-  fits_three : (text : List ℕ) (cs : List Category) → kids_fit kind.Function text cs ≡ true → cs ≡ category.specifiers ∷ category.declarator ∷ category.block ∷ []
+  pub fits_three : (text : List ℕ) (cs : List Category) → kids_fit kind.Function text cs ≡ true → cs ≡ category.specifiers ∷ category.declarator ∷ category.block ∷ []
   unfolding kids_fit
   fits_three text (category.specifiers ∷ category.declarator ∷ category.block ∷ []) fits = refl
   fits_three text cs fits = absurd (true≢false (sym fits))

@@ -44,7 +44,7 @@ module _ (tokens : List Token) (t : Tree) (derived : IsTreeOf tokens t) (m : ℕ
   body_is x b = (λ q. true≢false (sym b ∙ ap is_body q), λ q. true≢false (sym b ∙ ap is_body q))
 
   -- no name in a body stands in a parameter list
-  no_takes : (n : ℕ) (node x : Node) → slice_get (nodes t) n ≡ Some node → node.label.kind ≡ kind.Var → InBody tokens t derived m fn there is n → In x (nodes t) → x.label.kind ≡ kind.Takes → Behind x n → ⊥
+  pub no_takes : (n : ℕ) (node x : Node) → slice_get (nodes t) n ≡ Some node → node.label.kind ≡ kind.Var → InBody tokens t derived m fn there is n → In x (nodes t) → x.label.kind ≡ kind.Takes → Behind x n → ⊥
   no_takes n node x at var c h e b = by (three_ways n x.id)
     where
       by : (n < x.id) ⊎ ((n ≡ x.id) ⊎ (x.id < n)) → ⊥
@@ -58,7 +58,7 @@ module _ (tokens : List Token) (t : Tree) (derived : IsTreeOf tokens t) (m : ℕ
   kind_of_owner c x h e o = ap (λ i. is_unit (kind_at (nodes t) i)) o ∙ (ap (λ (y : Node). is_unit y.label.kind) (node_there tokens t derived x.id x (found tokens t derived x h)) ∙ ap is_unit e)
 
   -- the parameter list of the function itself stands in the function
-  own_inside : (takes : Node) → own_takes (nodes t) fn ≡ Some takes → In takes (nodes t) × (fn.first ≤ takes.first) × (takes.id < fn.id)
+  pub own_inside : (takes : Node) → own_takes (nodes t) fn ≡ Some takes → In takes (nodes t) × (fn.first ≤ takes.first) × (takes.id < fn.id)
   own_inside takes e =
       let at = own_takes_at t fn takes e in
       let f = function_name_of tokens t derived m fn there is in
@@ -81,7 +81,7 @@ module _ (tokens : List Token) (t : Tree) (derived : IsTreeOf tokens t) (m : ℕ
       by f first (inr (inr more)) lt = omega (arith, more, lt)
 
   -- the function that a block belongs to, where a name in the body stands in the block
-  block_owner : (n : ℕ) (x : Node) → In x (nodes t) → x.label.kind ≡ kind.Block → (parent_of (nodes t) x.id).label.kind ≡ kind.Function → Within x n → fn.first ≤ n → n < fn.id → parent_of (nodes t) x.id ≡ fn
+  pub block_owner : (n : ℕ) (x : Node) → In x (nodes t) → x.label.kind ≡ kind.Block → (parent_of (nodes t) x.id).label.kind ≡ kind.Function → Within x n → fn.first ≤ n → n < fn.id → parent_of (nodes t) x.id ≡ fn
   block_owner n x h e f w from to =
       let at = found tokens t derived x h in
       let p = has_parent tokens t derived x.id x at (λ u. block_no_unit (category_is tokens t derived x.id x at).0 (category_is tokens t derived x.id x at).1 u) in
