@@ -58,3 +58,4 @@ pub mod MadeParameters
 pub mod MadeLists
 pub mod MadeOwn
 pub mod MadeParameter
+pub mod MadeLocals

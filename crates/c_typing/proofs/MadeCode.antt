@@ -38,6 +38,12 @@ abbrev pub is_quiet : Stmt → Bool
 is_quiet (unset k) = false
 is_quiet s = true
 
+-- an automatic object or a parameter
+abbrev pub is_named_local : Entity → Bool
+is_named_local automatic = true
+is_named_local (parameter i) = true
+is_named_local e = false
+
 -- what is said of expressions and of statements, at these nodes and in these functions; of the locals and the callees that are named
 module _ (t : Tree) (P : Expr → Type 0) (R : Stmt → Type 0) (C N : ℕ → Type 0) (L : ℕ → Type 0) (K : Callee → CType → Type 0) where
   abbrev pub FormGood : Form → CType → Type 0
@@ -68,11 +74,6 @@ module _ (t : Tree) (P : Expr → Type 0) (R : Stmt → Type 0) (C N : ℕ → T
 
   abbrev pub Holds : ℕ → Meaning → Type 0
   Holds n m = Good t X V S S D NoLabel n m
-
-  abbrev pub is_named_local : Entity → Bool
-  is_named_local automatic = true
-  is_named_local (parameter i) = true
-  is_named_local e = false
 
   pub record Leaves : Type 0 where
     pub free : (e : Expr) → is_free e ≡ true → P e

@@ -45,7 +45,7 @@ is_object_entity static_object = true
 is_object_entity automatic = true
 is_object_entity y = false
 
-owner_of_object : (s : List Node) (owner specs : Node) (c : Scope) (f : Bool) (k : SynKind) (y : Entity) → is_object_entity y ≡ true → entity_by s owner specs c f k ≡ Some y → k ≡ kind.InitDecl
+pub owner_of_object : (s : List Node) (owner specs : Node) (c : Scope) (f : Bool) (k : SynKind) (y : Entity) → is_object_entity y ≡ true → entity_by s owner specs c f k ≡ Some y → k ≡ kind.InitDecl
 owner_of_object s owner specs c f kind.InitDecl y h e = refl
 owner_of_object s owner specs c f kind.Function y h e = let same : function_name ≡ y = cc e in absurd (true≢false (sym h ∙ ap is_object_entity (sym same)))
 owner_of_object s owner specs c f kind.Param y h e = absurd (true≢false (sym h ∙ ap (λ o. is_object_entity (unwrap_or o typedef_name)) (sym e)))

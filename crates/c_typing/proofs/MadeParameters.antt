@@ -28,7 +28,7 @@ use Rattle.c_typing.proofs.MadeAround.{both_true, and_true, equal_so, find_is, s
 
 module _ (tokens : List Token) (t : Tree) (derived : IsTreeOf tokens t) (m : ℕ) (fn : Node) (there : slice_get (nodes t) m ≡ Some fn) (is : fn.label.kind ≡ kind.Function) where
   -- an automatic object is in no scope of the unit
-  no_file : (s : List Node) (owner specs : Node) (c : Scope) (f : Bool) → declared_entity s specs c f ≡ automatic → is_file_scope s c ≡ false
+  pub no_file : (s : List Node) (owner specs : Node) (c : Scope) (f : Bool) → declared_entity s specs c f ≡ automatic → is_file_scope s c ≡ false
   no_file s owner specs c f e = by (says s (codes "typedef") specs) f (is_file_scope s c) refl e
     where
       by : (a b d : Bool) → is_file_scope s c ≡ d → (if a then typedef_name else (if b then function_name else (if d || says s (codes "static") specs || says s (codes "extern") specs then static_object else automatic))) ≡ automatic → is_file_scope s c ≡ false
@@ -107,7 +107,7 @@ module _ (tokens : List Token) (t : Tree) (derived : IsTreeOf tokens t) (m : ℕ
           subst (λ (y : Node). q.first ≤ y.first) one f.from
 
   -- where the scope of a name holds a place in the body, an automatic name is declared in the function
-  automatic_by : (n : ℕ) (node : Node) (e : Name) → slice_get (nodes t) n ≡ Some node → node.label.kind ≡ kind.Var → InBody tokens t derived m fn there is n → (c : Scope) (x : Node) → In x (nodes t) → ScopeOf t c x → is_file_scope (nodes t) c ≡ false → in_scope c n ≡ true → in_scope c e.node ≡ true
+  pub automatic_by : (n : ℕ) (node : Node) (e : Name) → slice_get (nodes t) n ≡ Some node → node.label.kind ≡ kind.Var → InBody tokens t derived m fn there is n → (c : Scope) (x : Node) → In x (nodes t) → ScopeOf t c x → is_file_scope (nodes t) c ≡ false → in_scope c n ≡ true → in_scope c e.node ≡ true
       → (fn.first ≤ e.node) × (e.node < fn.id)
   automatic_by n node e at var c s x h (of_unit k o) no_f i j = absurd (true≢false (sym (kind_of_owner s x h k o) ∙ no_f))
   automatic_by n node e at var c s x h (of_body b each) no_f i j =
