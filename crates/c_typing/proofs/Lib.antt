@@ -59,3 +59,4 @@ pub mod MadeLists
 pub mod MadeOwn
 pub mod MadeParameter
 pub mod MadeLocals
+pub mod MadeConstants
