@@ -60,3 +60,4 @@ pub mod MadeOwn
 pub mod MadeParameter
 pub mod MadeLocals
 pub mod MadeConstants
+pub mod MadeAddresses

@@ -38,16 +38,7 @@ pub function_row : (P : Meaning → Type 0) → ((f : Func) → P (defines f)) �
 unfolding function_node
 function_row P each p js node = search (yields_given, each)
 
-module _ (P : Meaning → Type 0) (all : (ss : List Stmt) → P (performs ss)) (one : (t : CType) (ss : List Stmt) (cs : List Cell) → P (initialized t ss cs)) (label : (w : Option ℕ) → P (labels w))
-    (p : Places) (js : List Judgement) (node : Node) (function : node.label.kind ≡ kind.Function → Yields P (function_node p js node)) where
-  declared : (b : Bool) (ss rs : List Stmt) → Yields P (means (cond b (performs ss) (performs rs)))
-  declared true ss rs = all ss
-  declared false ss rs = all rs
-
-  declaration_row : Yields P (declaration p js node)
-  unfolding declaration
-  declaration_row = search (yields_given, declared)
-
+module _ (P : Meaning → Type 0) (one : (t : CType) (ss : List Stmt) (cs : List Cell) → P (initialized t ss cs)) (p : Places) (js : List Judgement) (node : Node) where
   object_row : (n : ℕ) (e : Name) (t : CType) (q : Part) → Yields P (initialized_object p js n e t q)
   unfolding initialized_object
   object_row n e t q = search (yields_verdict, one)
@@ -56,9 +47,19 @@ module _ (P : Meaning → Type 0) (all : (ss : List Stmt) → P (performs ss)) (
   unfolding init_by
   init_by_row t e = search (yields_if, yields_given, yields_verdict, object_row, one)
 
-  init_row : Yields P (init_declarator p js node)
+  pub init_row : Yields P (init_declarator p js node)
   unfolding init_declarator
   init_row = search (yields_given, init_by_row)
+
+module _ (P : Meaning → Type 0) (all : (ss : List Stmt) → P (performs ss)) (label : (w : Option ℕ) → P (labels w))
+    (p : Places) (js : List Judgement) (node : Node) (init : node.label.kind ≡ kind.InitDecl → Yields P (init_declarator p js node)) (function : node.label.kind ≡ kind.Function → Yields P (function_node p js node)) where
+  declared : (b : Bool) (ss rs : List Stmt) → Yields P (means (cond b (performs ss) (performs rs)))
+  declared true ss rs = all ss
+  declared false ss rs = all rs
+
+  declaration_row : Yields P (declaration p js node)
+  unfolding declaration
+  declaration_row = search (yields_given, declared)
 
   block_row : Yields P (block_node js node)
   unfolding block_node
@@ -104,22 +105,26 @@ module _ (P : Meaning → Type 0) (all : (ss : List Stmt) → P (performs ss)) (
   unfolding switch_statement
   switch_row = search (yields_given, yields_besides, all)
 
-  pub statement_row : (k : SynKind) → node.label.kind ≡ k → is_statement_kind k ≡ true → Yields P (judged_by p js node k)
+  pub statement_kind_row : (k : SynKind) → node.label.kind ≡ k → is_statement_kind k ≡ true → Yields P (judged_by p js node k)
   unfolding judged_by
-  statement_row kind.Function is e = function is
-  statement_row kind.Declaration is e = declaration_row
-  statement_row kind.InitDecl is e = init_row
-  statement_row kind.Block is e = block_row
-  statement_row kind.ExprStmt is e = expression_row
-  statement_row kind.Empty is e = all _
-  statement_row kind.If is e = if_row
-  statement_row kind.While is e = while_row
-  statement_row kind.Do is e = do_row
-  statement_row kind.For is e = for_row
-  statement_row kind.Break is e = break_row
-  statement_row kind.Continue is e = continue_row
-  statement_row kind.Return is e = return_row
-  statement_row kind.Switch is e = switch_row
-  statement_row kind.Case is e = case_row P label p js node
-  statement_row kind.Default is e = default_row P label p js node
-  statement_row k is e = absurd (true≢false (sym e))
+  statement_kind_row kind.Function is e = function is
+  statement_kind_row kind.Declaration is e = declaration_row
+  statement_kind_row kind.InitDecl is e = init is
+  statement_kind_row kind.Block is e = block_row
+  statement_kind_row kind.ExprStmt is e = expression_row
+  statement_kind_row kind.Empty is e = all _
+  statement_kind_row kind.If is e = if_row
+  statement_kind_row kind.While is e = while_row
+  statement_kind_row kind.Do is e = do_row
+  statement_kind_row kind.For is e = for_row
+  statement_kind_row kind.Break is e = break_row
+  statement_kind_row kind.Continue is e = continue_row
+  statement_kind_row kind.Return is e = return_row
+  statement_kind_row kind.Switch is e = switch_row
+  statement_kind_row kind.Case is e = case_row P label p js node
+  statement_kind_row kind.Default is e = default_row P label p js node
+  statement_kind_row k is e = absurd (true≢false (sym e))
+
+pub statement_row : (P : Meaning → Type 0) → ((ss : List Stmt) → P (performs ss)) → ((t : CType) (ss : List Stmt) (cs : List Cell) → P (initialized t ss cs)) → ((w : Option ℕ) → P (labels w)) → (p : Places) (js : List Judgement) (node : Node)
+    → (node.label.kind ≡ kind.Function → Yields P (function_node p js node)) → (k : SynKind) → node.label.kind ≡ k → is_statement_kind k ≡ true → Yields P (judged_by p js node k)
+statement_row P all one label p js node function k is e = statement_kind_row P all label p js node (λ q. init_row P one p js node) function k is e
