@@ -17,15 +17,15 @@ use Rattle.c_types.specs.declared.tree.Object.{Object}
 use Rattle.c_types.specs.declared.tree.Stmt.{Stmt}
 use Rattle.c_types.specs.Forms.{const, address, binary, choose}
 use Rattle.c_types.specs.WellMade.{AddressFits, InEveryCell}
-use Rattle.c_typing.specs.Types.{CType, void, integer, pointer, array, unsized, struct, function, IntegerType, int, promoted, integer_of, target_of, Layout, size_of, is_array, is_struct, is_text_array}
+use Rattle.c_typing.specs.Types.{CType, void, integer, pointer, array, unsized, struct, function, IntegerType, int, promoted, integer_of, target_of, Layout, size_of, is_array, is_struct, is_scalar, is_text_array}
 use Rattle.c_typing.specs.Places.{Node, nodes, node_at, kind_at, kid, has_kid, is_whole, is_string}
 use Rattle.c_typing.specs.Names.{Places, places, Name, Entity, typedef_name, function_name, static_object, enumerator, is_static, denoted, object_number, objects_of}
 use Rattle.c_typing.specs.Judgements.{Callee, Form, callee, Constant, no_constant, undefined, number, null_pointer, zero_pointer, address_of, undefined_address, place_at, Typing, Fault, Meaning, fills_array, expresses, initialized, initial, performs, labels, defines, declares, Judgement, means, verdict, besides, given, judgement_at, typing_at, type_at, layouts, all_of}
 use Rattle.c_typing.specs.Conversions.{valued, value_of, result, Operator, operator_of, converted_code, converted_word}
 use Rattle.c_typing.specs.Rules.{bad_conversion, not_constant_for, is_constant_for, is_constant, out_of_range, broken_if, bad_initializer}
 use Rattle.c_typing.specs.Constants.{operated, chosen_constant, binary_constant, cast_constant, part_at, element_at, address_constant}
-use Rattle.c_typing.specs.Expressions.{literal, literals_before, expression, type_of_name, word_of_enumerator, field_of, no_field, variable_by, variable, prefix_step, postfix_step, subscript_constant, subscript, called, call_by, member_typing, dot, arrow, address_operator, dereference, sign_typing, sign_operator, not_operator, unary, measured_type, cast, operator_with, binary_by, binary_operator, conditional, comma, assignment, compound_by, assign}
-use Rattle.c_typing.specs.Initializers.{string, cell, constant_cell, text_cells, moved, Part, part, scalar_part, value_part, braced_part, part_by, part_for, part_of, kid_part, is_too_long, braces_for, braces, initialized_object, init_by, init_declarator, is_object, bare_code}
+use Rattle.c_typing.specs.Expressions.{literal, literals_before, expression, type_of_name, word_of_enumerator, field_of, no_field, element_typing, variable_by, variable, prefix_step, postfix_step, subscript_constant, subscript, called, call_by, member_typing, dot, arrow, address_operator, dereference, sign_typing, sign_operator, not_operator, unary, measured_type, cast, operator_with, binary_by, binary_operator, conditional, comma, assignment, compound_by, assign}
+use Rattle.c_typing.specs.Initializers.{string, cell, constant_cell, text_cells, moved, Part, part, scalar_part, value_part, braced_part, part_by, part_for, part_of, part_offset, kid_part, is_too_long, is_static_name, init_around, count_in, braces_for, braces, initialized_object, init_by, init_declarator, is_object, bare_code}
 use Rattle.c_typing.specs.Shapes as category
 use Rattle.c_typing.specs.ShapesOfNodes.{category_at}
 use Rattle.c_typing.specs.Typing.{in_parentheses, choice_node, call_node, cast_node, judged_by, judgements_at, data_of, object_of, cells_in, declarations_of, literal_object, literals_of, unit_in}
@@ -152,10 +152,6 @@ module _ (tokens : List Token) (t : Tree) (derived : IsTreeOf tokens t) (ok : Cl
         let s = sign_row (value_of x) g in
         search (yields_if, a, dereference_row, not_row, prefix_row, s) depth 8
 
-    subscript_good : (size : ℕ) (u : CType) (a b c d : Constant) → Okay a → Okay b → (over_a over_b : Typing) → over_a.constant ≡ a → over_b.constant ≡ b → Okay (subscript_constant size u over_a over_b)
-    subscript_good size (pointer u) a b c d h g x y e f = element_fits (length (data_of (places t) (judgements_at (places t)))) size y.constant x.constant (subst Okay (sym f) g)
-    subscript_good size u a b c d h g x y e f = element_fits (length (data_of (places t) (judgements_at (places t)))) size x.constant y.constant (subst Okay (sym e) h)
-
     binary_by_row : (x y : Typing) → Okay x.constant → Okay y.constant → (o : Operator) → Yields (Holds (length js)) (binary_by js node x y o)
     unfolding binary_by
     binary_by_row x y h g o = yields_verdict (Holds (length js)) _ (expression (valued _ _ (binary_constant (layouts js) (operator_with o o.class x.type y.type) node.id o.class x.type y.type x.constant y.constant)))
@@ -164,6 +160,10 @@ module _ (tokens : List Token) (t : Tree) (derived : IsTreeOf tokens t) (ok : Cl
     binary_row : (x y : Typing) → Okay x.constant → Okay y.constant → Yields (Holds (length js)) (binary_operator js node x y)
     unfolding binary_operator
     binary_row x y h g = yields_given (Holds (length js)) (operator_of node.label.text) (binary_by js node x y) (λ o e. binary_by_row x y h g o)
+
+    comma_row : (x y : Typing) → Yields (Holds (length js)) (comma x y)
+    unfolding comma
+    comma_row x y j = tt
 
     assignment_row : (x y : Typing) → Yields (Holds (length js)) (assignment js node x y)
     unfolding assignment
@@ -239,3 +239,216 @@ module _ (tokens : List Token) (t : Tree) (derived : IsTreeOf tokens t) (ok : Cl
     -- a part's cells fit, where it has no faults
     abbrev PartGood : Part → Type 0
     PartGood q = q.faults ≡ [] → AllByRecursion CellFits q.cells
+
+    no_front : (xs ys : List Fault) → xs ++ ys ≡ [] → xs ≡ []
+    no_front [] ys e = refl
+    no_front (x ∷ xs) ys e = absurd (cc e)
+
+    no_back : (xs ys : List Fault) → xs ++ ys ≡ [] → ys ≡ []
+    no_back [] ys e = e
+    no_back (x ∷ xs) ys e = absurd (cc e)
+
+    pointer_size : (ls : List Layout) (u : CType) (o a : ℕ) → is_constant_for u (address_of o a) ≡ true → size_of ls u ≡ 4
+    pointer_size ls (pointer w) o a e = refl
+    pointer_size ls void o a e = absurd (true≢false (sym e))
+    pointer_size ls (array u n) o a e = absurd (true≢false (sym e))
+    pointer_size ls (unsized u) o a e = absurd (true≢false (sym e))
+    pointer_size ls (struct k) o a e = absurd (true≢false (sym e))
+    pointer_size ls (function r ps) o a e = absurd (true≢false (sym e))
+    pointer_size ls (integer IntegerType.bool) o a e = absurd (true≢false (sym e))
+    pointer_size ls (integer IntegerType.char) o a e = absurd (true≢false (sym e))
+    pointer_size ls (integer IntegerType.schar) o a e = absurd (true≢false (sym e))
+    pointer_size ls (integer IntegerType.uchar) o a e = absurd (true≢false (sym e))
+    pointer_size ls (integer IntegerType.short) o a e = absurd (true≢false (sym e))
+    pointer_size ls (integer IntegerType.ushort) o a e = absurd (true≢false (sym e))
+    pointer_size ls (integer IntegerType.int) o a e = absurd (true≢false (sym e))
+    pointer_size ls (integer IntegerType.uint) o a e = absurd (true≢false (sym e))
+    pointer_size ls (integer IntegerType.long) o a e = absurd (true≢false (sym e))
+    pointer_size ls (integer IntegerType.ulong) o a e = absurd (true≢false (sym e))
+
+    allowed : (u : CType) (c : Constant) (n : ℕ) → not_constant_for u c n ≡ [] → is_constant_for u c ≡ true
+    allowed u c n e = by (is_constant_for u c) e
+      where
+        by : (b : Bool) → broken_if (not b) 8 n ≡ [] → b ≡ true
+        by true g = refl
+        by false g = absurd (cc g)
+
+    constant_good : (ls : List Layout) (u : CType) (at : ℕ) (c : Constant) → Okay c → is_constant_for u c ≡ true → AllByRecursion CellFits (constant_cell u at (size_of ls u) c)
+    constant_good ls u at (address_of o a) h e = ((pointer_size ls u o a e, h), tt)
+    constant_good ls u at (number w) h e = (tt, tt)
+    constant_good ls u at _ h e = (tt, tt)
+
+    scalar_good : (ls : List Layout) (static : Bool) (u : CType) (v : Typing) (n : ℕ) → Okay v.constant → PartGood (scalar_part ls static u v n)
+    scalar_good ls false u v n h e = tt
+    scalar_good ls true u v n h e = constant_good ls u 0 v.constant h (allowed u v.constant n (no_front (not_constant_for u v.constant n) (out_of_range v.constant) (no_back (bad_conversion u v n) (not_constant_for u v.constant n ++ out_of_range v.constant) e)))
+
+    if_part : (b : Bool) (p q r : Part) → PartGood p → PartGood q → (if b then Some p else Some q) ≡ Some r → PartGood r
+    if_part true p q r h g e = let same : p ≡ r = cc e in subst PartGood same h
+    if_part false p q r h g e = let same : q ≡ r = cc e in subst PartGood same g
+
+    value_good : (ls : List Layout) (static : Bool) (u : CType) (n : ℕ) (o : Option Typing) (q : Part) → ((x : Typing) → o ≡ Some x → Okay (value_of x).constant) → value_part ls static u n o ≡ Some q → PartGood q
+    value_good ls static u n None q h e = absurd (cc e)
+    value_good ls static u n (Some x) q h e = if_part (is_array u || is_struct u) (part [] (bad_initializer true n)) (scalar_part ls static u (value_of x) n) q (λ g. tt) (scalar_good ls static u (value_of x) n (h x refl)) e
+
+    braced_good : (n : ℕ) (again : Bool) (j : Judgement) (q : Part) → ((k : ℕ) (cs : List Cell) → j ≡ means (initial k cs) → AllByRecursion CellFits cs) → braced_part n again j ≡ Some q → PartGood q
+    braced_good n again (means (initial k cs)) q h e = let same : part cs (bad_initializer again n) ≡ q = cc e in subst PartGood same (λ g. h k cs refl)
+    braced_good n again _ q h e = absurd (cc e)
+
+    text_part : (static again : Bool) (u : CType) (m : Node) (b : Bool) (q : Part) → (if b then Some (part (text_cells 0 m.label.bytes) (bad_initializer (is_too_long u (length m.label.bytes)) m.id)) else value_part (layouts js) static u m.id (typing_at js m.id)) ≡ Some q → PartGood q
+    text_part static again u m true q e = let same : part (text_cells 0 m.label.bytes) (bad_initializer (is_too_long u (length m.label.bytes)) m.id) ≡ q = cc e in subst PartGood same (λ g. text_good 0 m.label.bytes)
+    text_part static again u m false q e = value_good (layouts js) static u m.id (typing_at js m.id) q (λ x h. value_at m.id x h) e
+
+    by_good : (static again : Bool) (u : CType) (m : Node) (k : SynKind) (q : Part) → part_by (places t) js static again u m k ≡ Some q → PartGood q
+    by_good static again u m kind.Braces q e = braced_good m.id again (judgement_at js m.id) q (λ k cs h. known m.id (initial k cs) h) e
+    by_good static again u m kind.Str q e = text_part static again u m (is_text_array u) q e
+    by_good static again u m _ q e = value_good (layouts js) static u m.id (typing_at js m.id) q (λ x h. value_at m.id x h) e
+
+    for_good : (static again : Bool) (u : CType) (n : ℕ) (q : Part) → part_for (places t) js static again u n ≡ Some q → PartGood q
+    for_good static again u n q e = by_good static again u (node_at (nodes t) n) (kind_at (nodes t) n) q e
+
+    shifted : (by : ℕ) (o : Option Part) (q : Part) → ((r : Part) → o ≡ Some r → PartGood r) → option_map (λ (r : Part). record r { cells = map (moved by) r.cells }) o ≡ Some q → PartGood q
+    shifted by None q h e = absurd (cc e)
+    shifted by (Some r) q h e = let same : record r { cells = map (moved by) r.cells } ≡ q = cc e in subst PartGood same (λ g. moved_good by r.cells (h r refl g))
+
+    kid_good : (static : Bool) (u : CType) (i : ℕ) (q : Part) → kid_part (places t) js static u node i ≡ Some q → PartGood q
+    kid_good static u i q e = by (part_of (places t) (layouts js) node i u) refl
+      where
+        by : (o : Option CType) → part_of (places t) (layouts js) node i u ≡ o → PartGood q
+        by None g =
+            let is : kid_part (places t) js static u node i ≡ Some (part [] []) = rw g refl in
+            let same : part [] [] ≡ q = cc (sym is ∙ e) in subst PartGood same (λ f. tt)
+        by (Some w) g =
+            let is : kid_part (places t) js static u node i ≡ option_map (λ (r : Part). record r { cells = map (moved (part_offset (layouts js) u i)) r.cells }) (part_for (places t) js static (is_scalar u) w (kid node i)) = rw g refl in
+            shifted (part_offset (layouts js) u i) (part_for (places t) js static (is_scalar u) w (kid node i)) q (λ r h. for_good static (is_scalar u) w (kid node i) r h) (sym is ∙ e)
+
+    all_cells : (parts : List Part) → AllByRecursion PartGood parts → flat_map (λ (q : Part). q.faults) parts ≡ [] → AllByRecursion CellFits (flat_map (λ (q : Part). q.cells) parts)
+    all_cells [] h e = tt
+    all_cells (q ∷ parts) h e = both q.cells (flat_map (λ (r : Part). r.cells) parts) (h.0 (no_front q.faults (flat_map (λ (r : Part). r.faults) parts) e)) (all_cells parts h.1 (no_back q.faults (flat_map (λ (r : Part). r.faults) parts) e))
+      where
+        both : (xs ys : List Cell) → AllByRecursion CellFits xs → AllByRecursion CellFits ys → AllByRecursion CellFits (xs ++ ys)
+        both [] ys a b = b
+        both (x ∷ xs) ys a b = (a.0, both xs ys a.1 b)
+
+    verdict_kept : (fs : List Fault) (m : Meaning) → (fs ≡ [] → Holds (length js) m) → Yields (Holds (length js)) (verdict fs m)
+    verdict_kept [] m h = h refl
+    verdict_kept (f ∷ fs) m h = tt
+
+    braces_for_row : (u : CType) → Yields (Holds (length js)) (braces_for (places t) js node u)
+    unfolding braces_for
+    braces_for_row u = yields_besides (Holds (length js)) _ _ (yields_given (Holds (length js)) (all_of (map (kid_part (places t) js (is_static_name (init_around (places t) node)) u node) (range_with_len 0 (length node.kids)))) _ (λ parts g.
+        verdict_kept (flat_map (λ (q : Part). q.faults) parts) (initial (count_in (places t) u node) (flat_map (λ (q : Part). q.cells) parts))
+        (all_cells parts (all_parts (kid_part (places t) js (is_static_name (init_around (places t) node)) u node) PartGood (range_with_len 0 (length node.kids)) parts (λ i q h e. kid_good (is_static_name (init_around (places t) node)) u i q e) g))))
+
+    nothing : (n : ℕ) → Holds (length js) (initial n [])
+    nothing n = tt
+
+    braces_row : Yields (Holds (length js)) (braces (places t) js node)
+    unfolding braces
+    braces_row = search (yields_if, yields_given, braces_for_row, nothing)
+
+    object_row : (n : ℕ) (e : Name) (u : CType) (q : Part) → PartGood q → Yields (Holds (length js)) (initialized_object (places t) js n e u q)
+    unfolding initialized_object
+    object_row n e u q h = verdict_kept _ (initialized _ _ q.cells) (λ g. h (no_front q.faults _ g))
+
+    bare : (u : CType) (ss : List Stmt) → Holds (length js) (initialized u ss [])
+    bare u ss = tt
+
+    init_by_row : (u : CType) (e : Name) → Yields (Holds (length js)) (init_by (places t) js node u e)
+    unfolding init_by
+    init_by_row u e = yields_if (Holds (length js)) (has_kid node 1) _ (means (initialized u (bare_code (places t) e e.entity) []))
+        (yields_if (Holds (length js)) (is_object e.entity) _ (verdict (bad_initializer true (kid node 1)) (initialized u [] [])) (yields_given (Holds (length js)) (part_for (places t) js (is_static e.entity) false u (kid node 1)) (initialized_object (places t) js (kid node 1) e u) (λ q g. object_row (kid node 1) e u q (for_good (is_static e.entity) false u (kid node 1) q g))) tt) tt
+
+    init_row : Yields (Holds (length js)) (init_declarator (places t) js node)
+    unfolding init_declarator
+    init_row = search (yields_given, init_by_row)
+
+    -- ---- all of them
+
+    if_typing : (b : Bool) (x y : Typing) → Okay x.constant → Okay y.constant → Okay (if b then x else y).constant
+    if_typing true x y h g = h
+    if_typing false x y h g = g
+
+    subscript_good : (size : ℕ) (u : CType) (x y : Typing) → Okay x.constant → Okay y.constant → Okay (subscript_constant size u x y)
+    subscript_good size (pointer u) x y h g = element_fits (length (data_of (places t) (judgements_at (places t)))) size y.constant x.constant g
+    subscript_good size u x y h g = element_fits (length (data_of (places t) (judgements_at (places t)))) size x.constant y.constant h
+
+    element_good : (ls : List Layout) (w u : CType) (x y : Typing) (c : Constant) → Okay c → Holds (length js) (expression (element_typing ls w u x y c))
+    element_good ls w (pointer u) x y c h j = h
+    element_good ls w u x y c h j = h
+
+    subscript_row : (x y : Typing) → Okay x.constant → Okay (value_of x).constant → Okay y.constant → Okay (value_of y).constant → Yields (Holds (length js)) (subscript js node x y)
+    unfolding subscript
+    subscript_row x y h hv g gv = search (yields_verdict, element_good, subscript_good, if_typing)
+
+    paren_row : (o : Option Typing) → typing_at js (kid node 0) ≡ o → Yields (Holds (length js)) (in_parentheses (places t) js node o)
+    paren_row o g = in_paren (Holds (length js)) (λ m h. free m h) (λ ss. tt) (places t) js node o (λ x h j. at_kid (kid node 0) x (g ∙ h))
+
+    code_row : (k : SynKind) → node.label.kind ≡ k → is_expression_kind k ≡ true → Yields (Holds (length js)) (judged_by (places t) js node k)
+    unfolding judged_by
+    code_row kind.Paren e h = paren_row (typing_at js (kid node 0)) refl
+    code_row (kind.Int type) e h = λ j. tt
+    code_row kind.Char e h = λ j. tt
+    code_row kind.Str e h = string_row e
+    code_row kind.Var e h = variable_row e (denoted (places t).names node.id node.label.text) refl
+    code_row kind.Unary e h = yields_given (Holds (length js)) (typing_at js (kid node 0)) (unary (places t) js node) (λ x g. unary_row x (at_kid (kid node 0) x g) (value_at (kid node 0) x g))
+    code_row kind.Post e h = yields_given (Holds (length js)) (typing_at js (kid node 0)) (postfix_step (places t) js node) (λ x g. postfix_row x)
+    code_row kind.Binary e h = yields_given (Holds (length js)) (typing_at js (kid node 0)) _ (λ x f. yields_given (Holds (length js)) (typing_at js (kid node 1)) (λ y. binary_operator js node (value_of x) (value_of y)) (λ y g. binary_row (value_of x) (value_of y) (value_at (kid node 0) x f) (value_at (kid node 1) y g)))
+    code_row kind.Assign e h = yields_given (Holds (length js)) (typing_at js (kid node 0)) _ (λ x f. yields_given (Holds (length js)) (typing_at js (kid node 1)) (λ y. assign (places t) js node x (value_of y)) (λ y g. assign_row x (value_of y)))
+    code_row kind.Cond e h = choice_row
+    code_row kind.Comma e h = yields_given (Holds (length js)) (typing_at js (kid node 0)) _ (λ x f. yields_given (Holds (length js)) (typing_at js (kid node 1)) (λ y. comma (value_of x) (value_of y)) (λ y g. comma_row (value_of x) (value_of y)))
+    code_row kind.Index e h = yields_given (Holds (length js)) (typing_at js (kid node 0)) _ (λ x f. yields_given (Holds (length js)) (typing_at js (kid node 1)) (subscript js node x) (λ y g. subscript_row x y (at_kid (kid node 0) x f) (value_at (kid node 0) x f) (at_kid (kid node 1) y g) (value_at (kid node 1) y g)))
+    code_row kind.Call e h = yields_given (Holds (length js)) (typing_at js (kid node 0)) (λ f. call_by js node f f.form) (λ f g. call_by_row f f.form)
+    code_row kind.Dot e h = yields_given (Holds (length js)) (typing_at js (kid node 0)) (dot js node) (λ x g. dot_row x (at_kid (kid node 0) x g))
+    code_row kind.Arrow e h = yields_given (Holds (length js)) (typing_at js (kid node 0)) (arrow js node) (λ x g. arrow_row x)
+    code_row kind.Cast e h = yields_given (Holds (length js)) (type_at js (kid node 0)) _ (λ u f. yields_given (Holds (length js)) (typing_at js (kid node 1)) (λ x. cast node u (value_of x)) (λ x g. cast_row u (value_of x) (value_at (kid node 1) x g)))
+    code_row kind.SizeExpr e h = yields_given (Holds (length js)) (typing_at js (kid node 0)) (λ x. measured_type js x.type (kid node 0)) (λ x g. measured_row x.type (kid node 0))
+    code_row kind.SizeType e h = yields_given (Holds (length js)) (type_at js (kid node 0)) (λ u. measured_type js u (kid node 0)) (λ u g. measured_row u (kid node 0))
+    code_row k e h = absurd (true≢false (sym h))
+
+    other_row : (k : SynKind) → node.label.kind ≡ k → (b : Bool) → is_expression_kind k ≡ b → (c : Bool) → is_statement_kind k ≡ c → b || (c || is_passive_kind k) ≡ true → Yields (Holds (length js)) (judged_by (places t) js node k)
+    other_row k e true f c g h = code_row k e f
+    other_row k e false f true g h = statement_kind_row (Holds (length js)) (λ ss. tt) (λ w. tt) (places t) js node (λ q. init_row) (λ q. function_row (Holds (length js)) (λ d. tt) (places t) js node) k e g
+    other_row k e false f false g h = passive_row (Holds (length js)) free (λ ss. tt) (places t) js node k h
+
+    row : (k : SynKind) → node.label.kind ≡ k → Yields (Holds (length js)) (judged_by (places t) js node k)
+    unfolding judged_by
+    row kind.StructSpec e = struct_row (places t) js node (Holds (length js)) (λ fs k. tt) (λ u. tt)
+    row kind.Braces e = braces_row
+    row k e = other_row k e (is_expression_kind k) refl (is_statement_kind k) refl refl
+
+  all_hold : Known (places t) Holds (judgements_at (places t))
+  all_hold = all_known (places t) Holds (λ js node there front known. row js node there front known node.label.kind refl)
+
+  judged_cells : (k : ℕ) (j : Judgement) → judgement_at (judgements_at (places t)) k ≡ j → AllByRecursion CellFits (cells_in j)
+  judged_cells k (means (initialized u ss cs)) e = all_hold k (initialized u ss cs) e
+  judged_cells k _ e = tt
+
+  flat_cells : (list : List Name) → AllByRecursion CellFits (flat_map (λ (a : Name). cells_in (judgement_at (judgements_at (places t)) a.owner)) list)
+  flat_cells [] = tt
+  flat_cells (a ∷ list) = both (cells_in (judgement_at (judgements_at (places t)) a.owner)) (flat_map (λ (b : Name). cells_in (judgement_at (judgements_at (places t)) b.owner)) list) (judged_cells a.owner (judgement_at (judgements_at (places t)) a.owner) refl) (flat_cells list)
+    where
+      both : (xs ys : List Cell) → AllByRecursion CellFits xs → AllByRecursion CellFits ys → AllByRecursion CellFits (xs ++ ys)
+      both [] ys a b = b
+      both (x ∷ xs) ys a b = (a.0, both xs ys a.1 b)
+
+  abbrev ObjectFits : Object → Type 0
+  ObjectFits o = AllByRecursion CellFits o.cells
+
+  objects_fit : (es : List Name) → AllByRecursion ObjectFits (map (object_of (places t) (judgements_at (places t))) es)
+  objects_fit [] = tt
+  objects_fit (e ∷ es) = (flat_cells (declarations_of (places t) e), objects_fit es)
+
+  literal_cells : (at : ℕ) (bytes : List ℕ) → AllByRecursion CellFits (text_cells at bytes)
+  literal_cells at [] = tt
+  literal_cells at (b ∷ bs) = (tt, literal_cells (at + 1) bs)
+
+  literals_fit : (ns : List Node) → AllByRecursion ObjectFits (map (λ (n : Node). literal_object n.label.bytes) ns)
+  literals_fit [] = tt
+  literals_fit (n ∷ ns) = (literal_cells 0 n.label.bytes, literals_fit ns)
+
+  all_two : (xs ys : List Object) → AllByRecursion ObjectFits xs → AllByRecursion ObjectFits ys → AllByRecursion ObjectFits (xs ++ ys)
+  all_two [] ys h g = g
+  all_two (x ∷ xs) ys h g = (h.0, all_two xs ys h.1 g)
+
+  pub addresses : InEveryCell (unit_in (places t) (judgements_at (places t))) (λ o c. AddressFits (unit_in (places t) (judgements_at (places t))) c.width c.value)
+  addresses = all_two (map (object_of (places t) (judgements_at (places t))) (objects_of (places t))) (map (λ (n : Node). literal_object n.label.bytes) (literals_of (places t) (judgements_at (places t)))) (objects_fit (objects_of (places t))) (literals_fit (literals_of (places t) (judgements_at (places t))))
