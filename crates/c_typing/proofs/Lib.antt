@@ -61,3 +61,4 @@ pub mod MadeParameter
 pub mod MadeLocals
 pub mod MadeConstants
 pub mod MadeAddresses
+pub mod Made
