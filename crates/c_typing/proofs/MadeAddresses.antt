@@ -137,6 +137,7 @@ module _ (tokens : List Token) (t : Tree) (derived : IsTreeOf tokens t) (ok : Cl
         last : (b : Bool) → bytes_eq text (codes "~") ≡ b → bytes_eq text (codes "-") ≡ false → Okay (sign_typing n k text v).constant
         last true e f = rw f (rw e (operated_fits (length (data_of (places t) (judgements_at (places t)))) op.Xor n v.constant _))
         last false e f = rw f (rw e h)
+
         by : (b : Bool) → bytes_eq text (codes "-") ≡ b → Okay (sign_typing n k text v).constant
         by true e = rw e (operated_fits (length (data_of (places t) (judgements_at (places t)))) _ n (number 0) v.constant)
         by false e = last (bytes_eq text (codes "~")) refl e

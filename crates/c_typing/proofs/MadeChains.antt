@@ -64,9 +64,11 @@ module _ (tokens : List Token) (t : Tree) (derived : IsTreeOf tokens t) where
     where
       kids : node.kids ≡ []
       kids = none_placed (categories_of (table_of t)) node.kids (no_kids node.label.kind node.label.text (at_places (categories_of (table_of t)) (map as_id node.kids)) e (node_placed tokens t derived node.id node (found tokens t derived node h)).fits.kids)
+
       no_step : (node.label.kind ≡ kind.Ident) ⊎ (node.label.kind ≡ kind.NoName) → is_step node.label.kind ≡ false
       no_step (inl f) = ap is_step f
       no_step (inr f) = ap is_step f
+
       none : NoStep node
       none x i f g low =
           let start = leaf_first t node h kids in
@@ -128,6 +130,7 @@ module _ (tokens : List Token) (t : Tree) (derived : IsTreeOf tokens t) where
         steps : (node.label.kind ≡ kind.Pointer) ⊎ (node.label.kind ≡ kind.ArrayOf) → is_step node.label.kind ≡ true
         steps (inl f) = ap is_step f
         steps (inr f) = ap is_step f
+
         apart : (node.label.kind ≡ kind.Pointer) ⊎ (node.label.kind ≡ kind.ArrayOf) → is_takes node.label.kind ≡ false
         apart (inl f) = ap is_takes f
         apart (inr f) = ap is_takes f

@@ -169,19 +169,23 @@ module _ (t : Tree) (P : Expr → Type 0) (R : Stmt → Type 0) (C N : ℕ → T
     prefix_end : node.label.kind ≡ kind.Unary → (x : Typing) → typing_at js (kid node 0) ≡ Some x
         → Holds (length js) (expresses (result x.type (written (hidden_before (places t) js) x (stepped (layouts js) (step_operator node.label.text) x.type) x.form) no_constant) (hidden_for x.form 0))
     prefix_end e x g j c =
-        let k = operand kind.Unary 0 e refl (omega arith) x g c in
-        (written_every P l.free L l.is_local l.is_set (hidden_before (places t) js) x (stepped (layouts js) (step_operator node.label.text) x.type) (λ q h. stepped_every P l.free (layouts js) (step_operator node.label.text) x.type q h) k.0 x.form
-        (λ i same. subst (λ f. FormGood f x.type) same k.1)
-        (λ lt. subst L (omega arith) (l.hidden js node (result x.type (written (hidden_before (places t) js) x (stepped (layouts js) (step_operator node.label.text) x.type) x.form) no_constant) (hidden_for x.form 0) 0 there front j lt c)), result_good x.type x.type)
+        let k = operand kind.Unary 0 e refl (omega arith) x g c in (
+          written_every P l.free L l.is_local l.is_set (hidden_before (places t) js) x (stepped (layouts js) (step_operator node.label.text) x.type) (λ q h. stepped_every P l.free (layouts js) (step_operator node.label.text) x.type q h) k.0 x.form
+              (λ i same. subst (λ f. FormGood f x.type) same k.1)
+              (λ lt. subst L (omega arith) (l.hidden js node (result x.type (written (hidden_before (places t) js) x (stepped (layouts js) (step_operator node.label.text) x.type) x.form) no_constant) (hidden_for x.form 0) 0 there front j lt c)),
+          result_good x.type x.type,
+        )
 
     postfix_end : node.label.kind ≡ kind.Post → (x : Typing) → typing_at js (kid node 0) ≡ Some x
         → Holds (length js) (expresses (result x.type (written_before (hidden_before (places t) js) x (stepped (layouts js) (step_operator node.label.text) x.type) x.form) no_constant) (hidden_for x.form 1))
     postfix_end e x g j c =
         let k = operand kind.Post 0 e refl (omega arith) x g c in
-        let r = result x.type (written_before (hidden_before (places t) js) x (stepped (layouts js) (step_operator node.label.text) x.type) x.form) no_constant in
-        (written_before_every P l.free L l.is_local l.is_set (hidden_before (places t) js) x (stepped (layouts js) (step_operator node.label.text) x.type) (λ q h. stepped_every P l.free (layouts js) (step_operator node.label.text) x.type q h) k.0 x.form
-        (λ i same. subst (λ f. FormGood f x.type) same k.1)
-        (λ lt. subst L (omega arith) (l.hidden js node r (hidden_for x.form 1) 0 there front j lt c)) (λ lt. l.hidden js node r (hidden_for x.form 1) 1 there front j lt c), result_good x.type x.type)
+        let r = result x.type (written_before (hidden_before (places t) js) x (stepped (layouts js) (step_operator node.label.text) x.type) x.form) no_constant in (
+          written_before_every P l.free L l.is_local l.is_set (hidden_before (places t) js) x (stepped (layouts js) (step_operator node.label.text) x.type) (λ q h. stepped_every P l.free (layouts js) (step_operator node.label.text) x.type q h) k.0 x.form
+              (λ i same. subst (λ f. FormGood f x.type) same k.1)
+              (λ lt. subst L (omega arith) (l.hidden js node r (hidden_for x.form 1) 0 there front j lt c)) (λ lt. l.hidden js node r (hidden_for x.form 1) 1 there front j lt c),
+          result_good x.type x.type,
+        )
 
     postfix_row : node.label.kind ≡ kind.Post → (x : Typing) → typing_at js (kid node 0) ≡ Some x → Yields (Holds (length js)) (postfix_step (places t) js node x)
     unfolding postfix_step
@@ -216,6 +220,7 @@ module _ (t : Tree) (P : Expr → Type 0) (R : Stmt → Type 0) (C N : ℕ → T
         last : (b : Bool) → bytes_eq text (codes "~") ≡ b → bytes_eq text (codes "-") ≡ false → EveryExpr P (sign_typing n k text v).code × FormGood (sign_typing n k text v).form (sign_typing n k text v).type
         last true e f = rw f (rw e ((binary_every P l.free op.Xor v.code (const minus_one) h (const_every P l.free minus_one)), tt))
         last false e f = rw f (rw e (h, tt))
+
         by : (b : Bool) → bytes_eq text (codes "-") ≡ b → EveryExpr P (sign_typing n k text v).code × FormGood (sign_typing n k text v).form (sign_typing n k text v).type
         by true e = rw e ((l.free _ refl, const_every P l.free 0, h), tt)
         by false e = last (bytes_eq text (codes "~")) refl e
@@ -277,9 +282,11 @@ module _ (t : Tree) (P : Expr → Type 0) (R : Stmt → Type 0) (C N : ℕ → T
       compound_end : (o : Operator) → Holds (length js) (expresses (result x.type (written (hidden_before (places t) js) x (compound_new (layouts js) o x (value_of y)) x.form) no_constant) (hidden_for x.form 0))
       compound_end o j c =
           let q = operand k 0 is code (omega (arith, two)) x e c in
-          let r = result x.type (written (hidden_before (places t) js) x (compound_new (layouts js) o x (value_of y)) x.form) no_constant in
-          (written_every P l.free L l.is_local l.is_set (hidden_before (places t) js) x (compound_new (layouts js) o x (value_of y)) (λ z h. compound_every P l.free (layouts js) o x (value_of y) z (right c) h) q.0 x.form
-          (λ i same. subst (λ f. FormGood f x.type) same q.1) (λ lt. subst L (omega arith) (l.hidden js node r (hidden_for x.form 0) 0 there front j lt c)), result_good x.type x.type)
+          let r = result x.type (written (hidden_before (places t) js) x (compound_new (layouts js) o x (value_of y)) x.form) no_constant in (
+            written_every P l.free L l.is_local l.is_set (hidden_before (places t) js) x (compound_new (layouts js) o x (value_of y)) (λ z h. compound_every P l.free (layouts js) o x (value_of y) z (right c) h) q.0 x.form
+                (λ i same. subst (λ f. FormGood f x.type) same q.1) (λ lt. subst L (omega arith) (l.hidden js node r (hidden_for x.form 0) 0 there front j lt c)),
+            result_good x.type x.type,
+          )
 
       compound_row : (o : Operator) → Yields (Holds (length js)) (compound_by (places t) js node x (value_of y) o)
       unfolding compound_by

@@ -195,6 +195,7 @@ module _ (tokens : List Token) (t : Tree) (derived : IsTreeOf tokens t) (C : Nod
     where
       holds : (m : Meaning) → judgement_at (judgements_at (places t)) k ≡ means m → Holds k m
       holds m g = all_known (places t) Holds (λ js other at front known. row js other at front known other.label.kind refl) k m g
+
       by : (j : Judgement) → judgement_at (judgements_at (places t)) k ≡ j → type_of j ≡ Some u → Whole t C k node u
       by (means (declares v)) g h = let same : v ≡ u = cc h in subst (λ w. Whole t C k node w) same (holds (declares v) g node there d)
       by (means (a_type v)) g h = absurd (true≢false (sym d ∙ holds (a_type v) g node there))

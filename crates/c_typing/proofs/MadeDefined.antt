@@ -154,6 +154,7 @@ own_takes_at t node takes e = by (next_to_name (nodes t) (node_at (nodes t) (kid
         let f = find_is (λ (m : Node). m.first == (node_at (nodes t) (kid node 1)).first && is_step m.label.kind) (nodes t) x g in
         record { among = subst (λ (m : Node). In m (nodes t)) same f.0; kind_is = subst (λ (m : Node). m.label.kind ≡ kind.Takes) same (takes_is x.label.kind h); next = g ∙ ap Some same }
     at x g false h i = absurd (cc i)
+
     by : (o : Option Node) → next_to_name (nodes t) (node_at (nodes t) (kid node 1)).first ≡ o → TakesAt t node takes
     by None g = let is : own_takes (nodes t) node ≡ None = rw g refl in absurd (cc (sym is ∙ e))
     by (Some x) g = let is : own_takes (nodes t) node ≡ (if is_takes x.label.kind then Some x else None) = rw g refl in at x g (is_takes x.label.kind) refl (sym is ∙ e)

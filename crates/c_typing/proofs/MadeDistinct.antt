@@ -111,6 +111,7 @@ module _ (tokens : List Token) (t : Tree) (derived : IsTreeOf tokens t) where
             is_takes_kind : SynKind → Bool
             is_takes_kind kind.Takes = true
             is_takes_kind k = false
+
             which : (x.label.kind ≡ kind.Function) ⊎ (x.label.kind ≡ kind.Unit) → ⊥
             which (inl g) = true≢false (ap is_takes_kind (sym e ∙ g))
             which (inr g) = true≢false (ap is_takes_kind (sym e ∙ g))

@@ -78,18 +78,22 @@ module _ (t : Tree) (P : Expr → Type 0) (R : Stmt → Type 0) (C N : ℕ → T
     switch_end : (js : List Judgement) (node : Node) → slice_get (nodes t) (length js) ≡ Some node → IsFront (places t) js → node.label.kind ≡ kind.Switch → Known (places t) Meets js
         → (x : Typing) → typing_at js (kid node 0) ≡ Some x → (items : List Item) → all_of (map (item_at js) (other_kids node)) ≡ Some items
         → Meets (length js) (does (switch (value_of x).code (length_of (groups_of items).groups) (group_row (groups_of items).groups)))
-    switch_end js node there front e known x g items h =
-        (((λ c. (((value_good c, tt), l.quiet (switch (value_of x).code (length_of (groups_of items).groups) (group_row (groups_of items).groups)) refl), every_groups PerStmt (groups_of items).groups (bodies c))), tt),
-        λ d. absurd (not_declared (length js) node there kind.Switch e refl d))
+    switch_end js node there front e known x g items h = (
+      ((λ c. (((value_good c, tt), l.quiet (switch (value_of x).code (length_of (groups_of items).groups) (group_row (groups_of items).groups)) refl), every_groups PerStmt (groups_of items).groups (bodies c))), tt),
+      λ d. absurd (not_declared (length js) node there kind.Switch e refl d),
+    )
       where
         later : (k : ℕ) (m : Meaning) → judgement_at js k ≡ means m → judgement_at (judgements_at (places t)) k ≡ means m
         later k m q = ap (λ z. judgement_at z k) front.1 ∙ meant_later js front.0 k m q
+
         first : In (kid node 0) node.kids
         first = kid_in tokens t derived (length js) node 0 there (subst (λ q. 0 < least_kids q) (sym e) (omega arith))
+
         value_good : C (length js) → EveryExpr P (value_of x).code
         value_good c =
             let m = typing_meant (judgement_at js (kid node 0)) x g in
             value_every P l.free x (known (kid node 0) (expresses x m.0) m.1 (later (kid node 0) (expresses x m.0) m.1) (l.up (length js) (kid node 0) node there (ap is_code_kind e) first c)).0
+
         bodies : C (length js) → BodiesGood (EveryStmt PerStmt) (groups_of items).groups
         bodies c = bodies_good (EveryStmt PerStmt) items (all_parts (item_at js) (ItemGood (EveryStmt PerStmt)) (other_kids node) items
             (λ k i n m. item_good k js known (l.up (length js) k node there (ap is_code_kind e) (in_others node k n) c) i (item_meant js k i (judgement_at js k) refl m)) h)

@@ -185,6 +185,7 @@ module _ (tokens : List Token) (t : Tree) (derived : IsTreeOf tokens t) where
     where
       at : whole_by p js node u (Some name) kind.Function ≡ []
       at = subst (λ q. whole_by p js node u (Some name) q ≡ []) is (subst (λ q. whole_by p js node u q k ≡ []) same kept)
+
       by : (b : Bool) → is_some (own_takes p.nodes (parent_of p.nodes node.id)) ≡ b → (is_some (own_takes p.nodes (parent_of p.nodes node.id)) ≡ true) × (declared_faults p js name u node.id true function_name ≡ [])
       by true g = let opened : declared_faults p js name u node.id true name.entity ≡ [] = subst (λ b. (if b then declared_faults p js name u node.id true name.entity else not_a_function false node.id) ≡ []) g at in
           (g, subst (λ q. declared_faults p js name u node.id true q ≡ []) entity opened)

@@ -98,6 +98,7 @@ module _ (tokens : List Token) (t : Tree) (derived : IsTreeOf tokens t) where
           none : ((d : Scope) → In d xs → in_scope d i ≡ true → ⊥) → (d : Scope) → In d (x ∷ xs) → in_scope d i ≡ true → ⊥
           none k d (inl same) j = true≢false (sym j ∙ (ap (λ (q : Scope). in_scope q i) (sym same) ∙ g))
           none k d (inr l) j = k d l j
+
           at : (find (λ d. in_scope d i) xs ≡ Some c) ⊎ (((d : Scope) → In d xs → in_scope d i ≡ true → ⊥) × (find (λ d. in_scope d i) ys ≡ Some c))
               → (find (λ d. in_scope d i) xs ≡ Some c) ⊎ (((d : Scope) → In d (x ∷ xs) → in_scope d i ≡ true → ⊥) × (find (λ d. in_scope d i) ys ≡ Some c))
           at (inl a) = inl a
@@ -131,8 +132,10 @@ module _ (tokens : List Token) (t : Tree) (derived : IsTreeOf tokens t) where
     where
       none_in : in_scope no_scope n ≡ true → ⊥
       none_in q = grind arith
+
       or_not : (a b : ℕ) → (a ≤ b) ⊎ (b < a)
       or_not a b = grind arith
+
       at : (c : Scope) → find (λ d. in_scope d i) (scopes_of (nodes t)) ≡ Some c → FoundAt (nodes t) i c → Innermost i
       at c g f =
           let inside = in_at f.node (nodes t) f.place f.there in
@@ -152,9 +155,11 @@ module _ (tokens : List Token) (t : Tree) (derived : IsTreeOf tokens t) where
             where
               id : f.node.id ≡ f.place
               id = numbered tokens t derived f.place f.node f.there
+
               which : (f.node.id ≤ y.id) ⊎ (y.id < f.node.id) → f.node.id ≤ y.id
               which (inl le) = le
               which (inr lt) = absurd (f.none y.id y d (omega (arith, lt, id)) (found tokens t derived y h) k j)
+
       by : (o : Option Scope) → find (λ d. in_scope d i) (scopes_of (nodes t)) ≡ o → in_scope (unwrap_or o no_scope) n ≡ true → Innermost i
       by None g h = absurd (none_in h)
       by (Some c) g h = at c g (found_at (nodes t) i c g)

@@ -105,12 +105,16 @@ module _ (tokens : List Token) (t : Tree) (derived : IsTreeOf tokens t) (m : ℕ
     where
       b : (nat_le g.first n ≡ true) × (nat_le n g.id ≡ true)
       b = both_true (nat_le g.first n) (nat_le n g.id) at
+
       low : g.first ≤ n
       low = low_so g.first n b.0
+
       high : n ≤ g.id
       high = low_so n g.id b.1
+
       no_unit : (x : Node) → x.label.kind ≡ kind.Function → x.label.kind ≡ kind.Unit → ⊥
       no_unit x p q = true≢false (ap is_function (sym p ∙ q))
+
       by : (g.id < fn.id) ⊎ ((g.id ≡ fn.id) ⊎ (fn.id < g.id)) → g ≡ fn
       by (inl less) =
           let l = low in
@@ -143,5 +147,6 @@ module _ (tokens : List Token) (t : Tree) (derived : IsTreeOf tokens t) (m : ℕ
     where
       alike : (i : ℕ) → (i == i) ≡ true
       alike i = grind arith
+
       counted : (o : Option ℕ) (i : ℕ) → o ≡ Some i → i < length (automatics_in (places t) fn) → length (parameters_of (places t) fn) + unwrap_or o 0 < named_locals (places t) fn
       counted o i q lt = subst (λ z. length (parameters_of (places t) fn) + unwrap_or z 0 < named_locals (places t) fn) (sym q) (omega (arith, lt))

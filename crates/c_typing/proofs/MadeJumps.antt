@@ -115,6 +115,7 @@ module _ (tokens : List Token) (t : Tree) (derived : IsTreeOf tokens t) where
       one [] a = tt
       one (s ∷ []) a = a.0
       one (s ∷ r ∷ ss) a = all_in (in_loop k) (in_either k) (s ∷ r ∷ ss) a
+
       by : (i : Item) → Meant (judgement_at js k) i → ItemGood (JumpsEnd (in_loop n) true) i
       by _ (label w m) = tt
       by _ (statement ss m) = jumps_more (in_loop k) (in_either k) (in_loop n) true
@@ -127,10 +128,15 @@ module _ (tokens : List Token) (t : Tree) (derived : IsTreeOf tokens t) where
   switch_end : (js : List Judgement) (node : Node) → slice_get (nodes t) (length js) ≡ Some node → node.label.kind ≡ kind.Switch
       → Known (places t) (Good t AnyTyping Any Ends Free Whole AnyLabel) js → (x : Typing) (items : List Item) → all_of (map (item_at js) (other_kids node)) ≡ Some items
       → Good t AnyTyping Any Ends Free Whole AnyLabel (length js) (does (switch (value_of x).code (length_of (groups_of items).groups) (group_row (groups_of items).groups)))
-  switch_end js node there e known x items g =
-      ((all_of_groups (in_loop (length js)) (groups_of items).groups (bodies_good (JumpsEnd (in_loop (length js)) true) items
-      (all_parts (item_at js) (ItemGood (JumpsEnd (in_loop (length js)) true)) (other_kids node) items
-      (λ k i h m. item_good (length js) k js node there e (in_others node k h) known i m) g)), tt), λ d. absurd (not_declared (length js) node there kind.Switch e refl d))
+  switch_end js node there e known x items g = (
+    (
+      all_of_groups (in_loop (length js)) (groups_of items).groups (bodies_good (JumpsEnd (in_loop (length js)) true) items
+          (all_parts (item_at js) (ItemGood (JumpsEnd (in_loop (length js)) true)) (other_kids node) items
+          (λ k i h m. item_good (length js) k js node there e (in_others node k h) known i m) g)),
+      tt,
+    ),
+    λ d. absurd (not_declared (length js) node there kind.Switch e refl d),
+  )
 
   switch_row : (js : List Judgement) (node : Node) → slice_get (nodes t) (length js) ≡ Some node → node.label.kind ≡ kind.Switch
       → Known (places t) (Good t AnyTyping Any Ends Free Whole AnyLabel) js → Yields (Good t AnyTyping Any Ends Free Whole AnyLabel (length js)) (switch_statement js node)
@@ -148,8 +154,10 @@ module _ (tokens : List Token) (t : Tree) (derived : IsTreeOf tokens t) where
       one [] a = tt
       one (s ∷ []) a = a.0
       one (s ∷ r ∷ ss) a = all_in (in_loop (kid node 2)) (in_either (kid node 2)) (s ∷ r ∷ ss) a
+
       inner : In (kid node 2) node.kids
       inner = kid_in tokens t derived n node 2 there (subst (λ l. 2 < least_kids l) (sym e) (omega arith))
+
       nothing : (test : SynKind → Bool) → test kind.Function ≡ false → test kind.Unit ≡ false → inside test t (kid node 2) ≡ true → ⊥
       nothing test f u g = by (around_parent test t tokens derived n (kid node 2) node there inner (surrounding test t (kid node 2) g))
         where

@@ -70,21 +70,28 @@ module _ (tokens : List Token) (t : Tree) (derived : IsTreeOf tokens t) where
     where
       id : m.id ≡ place
       id = numbered tokens t derived place m at
+
       own : slice_get (nodes t) m.id ≡ Some m
       own = subst (λ i. slice_get (nodes t) i ≡ Some m) (sym id) at
+
       inside : In m (nodes t)
       inside = in_at m (nodes t) place at
+
       kids : m.kids ≡ []
       kids = none_placed (categories_of (table_of t)) m.kids (no_kids m.label.kind m.label.text (at_places (categories_of (table_of t)) (map as_id m.kids)) (inl is) (node_placed tokens t derived place m at).fits.kids)
+
       alike : (i j : ℕ) → i ≡ j → (i == j) ≡ true
       alike i j e = grind arith
+
       listed : In m (filter (in_declarator m.id) (nodes t))
       listed = filter_in (in_declarator m.id) (nodes t) m inside (and_true (m.first == m.id) (is_declarator m.label.kind) (alike m.first m.id (leaf_first t m inside kids)) (ap is_declarator is))
+
       by : (w : Node) × (last_or None (filter (in_declarator m.id) (nodes t)) ≡ Some w) → Low x
       by (w, e) = at_low (last_in (filter (in_declarator m.id) (nodes t)) None w e)
         where
           is_low : whole_declarator (nodes t) m.id ≡ w
           is_low = ap (λ o. unwrap_or o nowhere) e
+
           at_low : In w (filter (in_declarator m.id) (nodes t)) ⊎ (None ≡ Some w) → Low x
           at_low (inr h) = absurd (cc h)
           at_low (inl h) =

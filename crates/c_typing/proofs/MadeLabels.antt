@@ -139,8 +139,10 @@ module _ (tokens : List Token) (t : Tree) (derived : IsTreeOf tokens t) where
     where
       id : node.id ≡ length js
       id = numbered tokens t derived (length js) node there
+
       early : judgement_at js k ≡ means (labels v)
       early = sym (front_at js front.0 k lt) ∙ (ap (λ j. judgement_at j k) (sym front.1) ∙ e)
+
       by : (b : Bool) → same_label v w ≡ b → same_label v w ≡ false
       by true same = absurd (true≢false (sym (same_before (places t) js node w k v (subst (λ n. In k (other_kids (parent_of (nodes t) n))) (sym id) i) (omega (arith, id, lt)) early same) ∙ h))
       by false same = same
@@ -194,9 +196,10 @@ module _ (tokens : List Token) (t : Tree) (derived : IsTreeOf tokens t) where
   item_good k js known _ (statement ss e) = one_good k ss (known k (performs ss) e).0
 
   chooses : (e : Expr) (items : List Item) → AllApart items → Chooses (switch e (length_of (groups_of items).groups) (group_row (groups_of items).groups))
-  chooses e items h =
-      (subst (λ gs. IsDistinct nat_eq (labels_of gs)) (sym (groups_back (groups_of items).groups)) (subst (λ ws. IsDistinct nat_eq ws) (sym (labels_are items)) (words_distinct items h)),
-      subst (λ gs. others gs ≤ 1) (sym (groups_back (groups_of items).groups)) (le_trans (others_are items) (one_default items h)))
+  chooses e items h = (
+    subst (λ gs. IsDistinct nat_eq (labels_of gs)) (sym (groups_back (groups_of items).groups)) (subst (λ ws. IsDistinct nat_eq ws) (sym (labels_are items)) (words_distinct items h)),
+    subst (λ gs. others gs ≤ 1) (sym (groups_back (groups_of items).groups)) (le_trans (others_are items) (one_default items h)),
+  )
 
   not_declared : (n : ℕ) (node : Node) → slice_get (nodes t) n ≡ Some node → (k : SynKind) → node.label.kind ≡ k → is_declaration k ≡ false → is_declaration (kind_at (nodes t) n) ≡ true → ⊥
   not_declared n node there k e f g = true≢false (sym g ∙ (ap is_declaration (ap (λ (m : Node). m.label.kind) (node_there tokens t derived n node there) ∙ e) ∙ f))

@@ -88,46 +88,75 @@ module _ (tokens : List Token) (t : Tree) (derived : IsTreeOf tokens t) where
     where
       p : HasParent t l.low.id l.low
       p = has_parent tokens t derived l.low.id l.low l.there (λ u. true≢false (sym (named_category e l) ∙ ap begins_named u))
+
       owner : node_at (nodes t) e.owner ≡ p.parent
       owner = ap (λ i. node_at (nodes t) i) l.owner ∙ node_there tokens t derived l.low.parent p.parent p.found
+
       is : p.parent.label.kind ≡ kind.Param
       is = ap (λ (x : Node). x.label.kind) (sym owner) ∙ o
+
       inside : In p.parent (nodes t)
       inside = in_at p.parent (nodes t) l.low.parent p.found
+
       own : slice_get (nodes t) p.parent.id ≡ Some p.parent
       own = found tokens t derived p.parent inside
+
       cat : category_at t p.parent.id ≡ category.parameter
       cat = param_category p.parent.id p.parent own is
+
       q : HasParent t p.parent.id p.parent
       q = has_parent tokens t derived p.parent.id p.parent own (λ u. param_no_unit (sym cat ∙ u))
         where
           param_no_unit : category.parameter ≡ category.unit → ⊥
           param_no_unit z = absurd (cc z)
+
       list_is : q.parent.label.kind ≡ kind.Takes
       list_is = param_stands q.parent.label.kind (subst (λ d. stands_in d q.parent.label.kind ≡ true) cat q.stands)
+
       list_in : In q.parent (nodes t)
       list_in = in_at q.parent (nodes t) p.parent.parent q.found
+
       kid_is : In p.parent.id q.parent.kids
       kid_is = kid_of_parent p.parent.id p.parent own q
+
       first_is : category_at t (kid q.parent 0) ≡ category.declarator
       first_is =
           let n = node_placed tokens t derived p.parent.parent q.parent q.found in
           place_known (categories_of (table_of t)) q.parent.kids 0 category.declarator
           (first_fits q.parent.label.text (at_places (categories_of (table_of t)) (map as_id q.parent.kids)) (subst (λ k. kids_fit k q.parent.label.text (at_places (categories_of (table_of t)) (map as_id q.parent.kids)) ≡ true) list_is n.fits.kids))
+
       apart : p.parent.id ≡ kid q.parent 0 → ⊥
       apart z = let clash : category.parameter ≡ category.declarator = sym cat ∙ (ap (λ i. category_at t i) z ∙ first_is) in absurd (cc clash)
+
       zero_kid : In (kid q.parent 0) q.parent.kids
       zero_kid = kid_in tokens t derived p.parent.parent q.parent 0 q.found (subst (λ k. 0 < least_kids k) (sym list_is) (omega arith))
+
       below : kid q.parent 0 < p.parent.id
       below = first_below q.parent.kids p.parent.id (ascending t q.parent list_in) kid_is apart
+
       or_not : (a b : ℕ) → (a < b) ⊎ (b ≤ a)
       or_not a b = grind arith
+
       behind : (kid q.parent 0 < p.parent.first) ⊎ (p.parent.first ≤ kid q.parent 0) → kid q.parent 0 < p.parent.first
       behind (inl lt) = lt
       behind (inr le) =
           let wide = nested t p.parent q.parent (kid q.parent 0) inside list_in zero_kid le below in
           let under = (kid_within t q.parent p.parent.id list_in kid_is).1 in
           absurd (omega (arith, wide, under))
+
       second : Listed e
-      second = record { low = l; param = p.parent; param_in = inside; param_is = is; low_kid = kid_of_parent l.low.id l.low l.there p; list = q.parent; list_in = list_in; list_is = list_is; param_kid = kid_is; other = others_in q.parent.kids p.parent.id kid_is apart;
-          behind = behind (or_not (kid q.parent 0) p.parent.first); owner = owner; parent = node_there tokens t derived p.parent.parent q.parent q.found }
+      second = record {
+        low = l;
+        param = p.parent;
+        param_in = inside;
+        param_is = is;
+        low_kid = kid_of_parent l.low.id l.low l.there p;
+        list = q.parent;
+        list_in = list_in;
+        list_is = list_is;
+        param_kid = kid_is;
+        other = others_in q.parent.kids p.parent.id kid_is apart;
+        behind = behind (or_not (kid q.parent 0) p.parent.first);
+        owner = owner;
+        parent = node_there tokens t derived p.parent.parent q.parent q.found;
+      }

@@ -48,6 +48,7 @@ position_is {A} p xs i e = by (below xs i e)
     below : (ys : List A) (j : ℕ) → position p ys ≡ Some j → j < length ys
     below [] j g = absurd (cc g)
     below (y ∷ ys) j g = (position-Some p (y ∷ ys) j y g).0
+
     by : i < length xs → (x : A) × (slice_get xs i ≡ Some x) × (p x ≡ true)
     by lt =
         let x = at_index xs i lt in
@@ -128,6 +129,7 @@ module _ (tokens : List Token) (t : Tree) (derived : IsTreeOf tokens t) where
       first =
           let f = find_is (λ (m : Node). m.first == names.low.first && is_step m.label.kind) (nodes t) takes next in
           equal_so takes.first names.low.first (both_true (takes.first == names.low.first) (is_step takes.label.kind) f.1).0
+
       low : (takes.id < names.low.id) ⊎ ((takes.id ≡ names.low.id) ⊎ (names.low.id < takes.id)) → takes.id ≤ names.low.id
       low (inl lt) = omega (arith, lt)
       low (inr (inl same)) = omega (arith, same)

@@ -92,14 +92,18 @@ module _ (s : List Node) where
       where
         new : List Name
         new = names_by s (scopes_of s) names node node.label.kind
+
         at : (e : Name) → In e new → e.node ≡ k
         at e h = by_at names node node.label.kind e h ∙ numbered k node there
+
         each : (e : Name) → In e names ⊎ In e new → Named s e
         each e (inl h) = g.each e h
         each e (inr h) = by_kind names node k there node.label.kind refl e h
+
         below : (e : Name) → In e names ⊎ In e new → e.node < suc k
         below e (inl h) = let b : e.node < k = g.below e h in omega (arith, b)
         below e (inr h) = let b : e.node ≡ k = at e h in omega (arith, b)
+
         alone : (a b : Name) → In a names ⊎ In a new → In b names ⊎ In b new → a.node ≡ b.node → a ≡ b
         alone a b (inl h) (inl i) same = g.alone a b h i same
         alone a b (inl h) (inr i) same = let c : a.node < k = g.below a h in let d : b.node ≡ k = at b i in absurd (omega (arith, c, d, same))
@@ -126,7 +130,9 @@ module _ (s : List Node) where
       → (before : List Name) × ((e : Name) → In e (names_by s (scopes_of s) before m m.label.kind) → In e (names_from s (scopes_of s) names ns))
   names_have names [] i m e = absurd (cc e)
   names_have names (node ∷ rest) zero m e =
-      let same : node ≡ m = cc e in
-      (names, λ a h. names_kept (names ++ names_by s (scopes_of s) names node node.label.kind) rest a
-      (in_back a names (names_by s (scopes_of s) names node node.label.kind) (subst (λ (x : Node). In a (names_by s (scopes_of s) names x x.label.kind)) (sym same) h)))
+      let same : node ≡ m = cc e in (
+        names,
+        λ a h. names_kept (names ++ names_by s (scopes_of s) names node node.label.kind) rest a
+            (in_back a names (names_by s (scopes_of s) names node node.label.kind) (subst (λ (x : Node). In a (names_by s (scopes_of s) names x x.label.kind)) (sym same) h)),
+      )
   names_have names (node ∷ rest) (suc i) m e = names_have (names ++ names_by s (scopes_of s) names node node.label.kind) rest i m e

@@ -76,38 +76,42 @@ pub record Bounds (first last : ℕ) (x : Node) : Type 0 where
 bounds : (x : Node) (first parent : ℕ) (f : Forest) → In x (nodes_of first parent f) → Bounds first (first + size f) x
 bounds x first parent none h = absurd h
 bounds x first parent (tree label kids rest) h = elim (place x first parent label kids rest h) [
-    below a ↦ (let b = bounds x first (first + size kids) kids a in
-        let b0 = b.from in
-        let b2 = b.to in
-        record { from = b0; up = b.up; to = omega (arith, b2) })
-    | root e ↦ subst (λ y. Bounds first (first + size (tree label kids rest)) y) e (record { from = omega arith; up = omega arith; to = omega arith })
-    | behind a ↦ (let b = bounds x (first + size kids + 1) parent rest a in
-        let b0 = b.from in
-        let b2 = b.to in
-        record { from = omega (arith, b0); up = b.up; to = omega (arith, b2) }) ]
+  | below a ↦ (let b = bounds x first (first + size kids) kids a in
+      let b0 = b.from in
+      let b2 = b.to in
+      record { from = b0; up = b.up; to = omega (arith, b2) })
+  | root e ↦ subst (λ y. Bounds first (first + size (tree label kids rest)) y) e (record { from = omega arith; up = omega arith; to = omega arith })
+  | behind a ↦ (let b = bounds x (first + size kids + 1) parent rest a in
+      let b0 = b.from in
+      let b2 = b.to in
+      record { from = omega (arith, b0); up = b.up; to = omega (arith, b2) })
+]
 
 -- a kid of a node stands within it
 kid_bounds : (x : Node) (first parent : ℕ) (f : Forest) (k : ℕ) → In x (nodes_of first parent f) → In k x.kids → (x.first ≤ k) × (k < x.id)
 kid_bounds x first parent none k h i = absurd h
 kid_bounds x first parent (tree label kids rest) k h i = elim (place x first parent label kids rest h) [
-    below a ↦ kid_bounds x first (first + size kids) kids k a i
-    | root e ↦ (let j : In k (numbers (roots first kids)) = subst (λ (y : Node). In k y.kids) (sym e) i in
-        subst (λ (y : Node). (y.first ≤ k) × (k < y.id)) e (root_bounds first kids k j))
-    | behind a ↦ kid_bounds x (first + size kids + 1) parent rest k a i ]
+  | below a ↦ kid_bounds x first (first + size kids) kids k a i
+  | root e ↦ (let j : In k (numbers (roots first kids)) = subst (λ (y : Node). In k y.kids) (sym e) i in
+      subst (λ (y : Node). (y.first ≤ k) × (k < y.id)) e (root_bounds first kids k j))
+  | behind a ↦ kid_bounds x (first + size kids + 1) parent rest k a i
+]
 
 -- no root stands within another node
 root_apart : (x : Node) (first parent : ℕ) (f : Forest) (k : ℕ) → In x (nodes_of first parent f) → In k (numbers (roots first f)) → x.first ≤ k → k < x.id → ⊥
 root_apart x first parent none k h r low high = absurd h
 root_apart x first parent (tree label kids rest) k h (inl d) low high = elim (place x first parent label kids rest h) [
-    below a ↦ (let b = (bounds x first (first + size kids) kids a).to in absurd (omega (arith, b, d, high)))
-    | root e ↦ (let same : first + size kids ≡ x.id = ap (λ (y : Node). y.id) e in absurd (omega (arith, same, d, high)))
-    | behind a ↦ (let b = (bounds x (first + size kids + 1) parent rest a).from in absurd (omega (arith, b, d, low))) ]
+  | below a ↦ (let b = (bounds x first (first + size kids) kids a).to in absurd (omega (arith, b, d, high)))
+  | root e ↦ (let same : first + size kids ≡ x.id = ap (λ (y : Node). y.id) e in absurd (omega (arith, same, d, high)))
+  | behind a ↦ (let b = (bounds x (first + size kids + 1) parent rest a).from in absurd (omega (arith, b, d, low)))
+]
 root_apart x first parent (tree label kids rest) k h (inr s) low high =
     let c = (root_bounds (first + size kids + 1) rest k s).0 in
     elim (place x first parent label kids rest h) [
-    below a ↦ (let b = (bounds x first (first + size kids) kids a).to in absurd (omega (arith, b, c, high)))
-    | root e ↦ (let same : first + size kids ≡ x.id = ap (λ (y : Node). y.id) e in absurd (omega (arith, same, c, high)))
-    | behind a ↦ root_apart x (first + size kids + 1) parent rest k a s low high ]
+      | below a ↦ (let b = (bounds x first (first + size kids) kids a).to in absurd (omega (arith, b, c, high)))
+      | root e ↦ (let same : first + size kids ≡ x.id = ap (λ (y : Node). y.id) e in absurd (omega (arith, same, c, high)))
+      | behind a ↦ root_apart x (first + size kids + 1) parent rest k a s low high
+    ]
 
 -- a node around a kid, other than the kid, is around its parent, or is it
 nest : (x n : Node) (first parent : ℕ) (f : Forest) (k : ℕ) → In x (nodes_of first parent f) → In n (nodes_of first parent f) → In k n.kids → x.first ≤ k → k < x.id → n.id ≤ x.id
@@ -117,43 +121,50 @@ nest x n first parent (tree label kids rest) k h i j low high =
     let d0 = d.0 in
     let d1 = d.1 in
     elim (place x first parent label kids rest h) [
-    below a ↦ (let c = (bounds x first (first + size kids) kids a).to in
-        elim (place n first parent label kids rest i) [
-        below b ↦ nest x n first (first + size kids) kids k a b j low high
-        | root e ↦ absurd (root_apart x first (first + size kids) kids k a (subst (λ (y : Node). In k y.kids) (sym e) j) low high)
-        | behind b ↦ (let g = (bounds n (first + size kids + 1) parent rest b).from in absurd (omega (arith, c, d0, g, high))) ])
-    | root e ↦ (let same : first + size kids ≡ x.id = ap (λ (y : Node). y.id) e in
-        elim (place n first parent label kids rest i) [
-        below b ↦ (let c = (bounds n first (first + size kids) kids b).to in omega (arith, same, c))
-        | root g ↦ (let also : first + size kids ≡ n.id = ap (λ (y : Node). y.id) g in omega (arith, same, also))
-        | behind b ↦ (let g = (bounds n (first + size kids + 1) parent rest b).from in absurd (omega (arith, same, d0, g, high))) ])
-    | behind a ↦ (let c = (bounds x (first + size kids + 1) parent rest a).from in
-        elim (place n first parent label kids rest i) [
-        below b ↦ (let g = (bounds n first (first + size kids) kids b).to in absurd (omega (arith, c, d1, g, low)))
-        | root e ↦ (let also : first + size kids ≡ n.id = ap (λ (y : Node). y.id) e in absurd (omega (arith, c, also, d1, low)))
-        | behind b ↦ nest x n (first + size kids + 1) parent rest k a b j low high ]) ]
+      | below a ↦ (let c = (bounds x first (first + size kids) kids a).to in
+          elim (place n first parent label kids rest i) [
+            | below b ↦ nest x n first (first + size kids) kids k a b j low high
+            | root e ↦ absurd (root_apart x first (first + size kids) kids k a (subst (λ (y : Node). In k y.kids) (sym e) j) low high)
+            | behind b ↦ (let g = (bounds n (first + size kids + 1) parent rest b).from in absurd (omega (arith, c, d0, g, high)))
+          ])
+      | root e ↦ (let same : first + size kids ≡ x.id = ap (λ (y : Node). y.id) e in
+          elim (place n first parent label kids rest i) [
+            | below b ↦ (let c = (bounds n first (first + size kids) kids b).to in omega (arith, same, c))
+            | root g ↦ (let also : first + size kids ≡ n.id = ap (λ (y : Node). y.id) g in omega (arith, same, also))
+            | behind b ↦ (let g = (bounds n (first + size kids + 1) parent rest b).from in absurd (omega (arith, same, d0, g, high)))
+          ])
+      | behind a ↦ (let c = (bounds x (first + size kids + 1) parent rest a).from in
+          elim (place n first parent label kids rest i) [
+            | below b ↦ (let g = (bounds n first (first + size kids) kids b).to in absurd (omega (arith, c, d1, g, low)))
+            | root e ↦ (let also : first + size kids ≡ n.id = ap (λ (y : Node). y.id) e in absurd (omega (arith, c, also, d1, low)))
+            | behind b ↦ nest x n (first + size kids + 1) parent rest k a b j low high
+          ])
+    ]
 
 -- two nodes do not cross
 cross : (x y : Node) (first parent : ℕ) (f : Forest) → In x (nodes_of first parent f) → In y (nodes_of first parent f) → x.first ≤ y.id → y.id < x.id → x.first ≤ y.first
 cross x y first parent none h i low high = absurd h
 cross x y first parent (tree label kids rest) h i low high =
     elim (place x first parent label kids rest h) [
-    below a ↦ (let c = (bounds x first (first + size kids) kids a).to in
-        elim (place y first parent label kids rest i) [
-        below b ↦ cross x y first (first + size kids) kids a b low high
-        | root e ↦ (let also : first + size kids ≡ y.id = ap (λ (z : Node). z.id) e in absurd (omega (arith, c, also, high)))
-        | behind b ↦ (let g = bounds y (first + size kids + 1) parent rest b in
-            let g0 = g.from in
-            let g1 = g.up in
-            absurd (omega (arith, c, g0, g1, high))) ])
-    | root e ↦ (let same : first ≡ x.first = ap (λ (z : Node). z.first) e in
-        let g = (bounds y first parent (tree label kids rest) i).from in
-        omega (arith, same, g))
-    | behind a ↦ (let c = (bounds x (first + size kids + 1) parent rest a).from in
-        elim (place y first parent label kids rest i) [
-        below b ↦ (let g = (bounds y first (first + size kids) kids b).to in absurd (omega (arith, c, g, low)))
-        | root e ↦ (let also : first + size kids ≡ y.id = ap (λ (z : Node). z.id) e in absurd (omega (arith, c, also, low)))
-        | behind b ↦ cross x y (first + size kids + 1) parent rest a b low high ]) ]
+      | below a ↦ (let c = (bounds x first (first + size kids) kids a).to in
+          elim (place y first parent label kids rest i) [
+            | below b ↦ cross x y first (first + size kids) kids a b low high
+            | root e ↦ (let also : first + size kids ≡ y.id = ap (λ (z : Node). z.id) e in absurd (omega (arith, c, also, high)))
+            | behind b ↦ (let g = bounds y (first + size kids + 1) parent rest b in
+                let g0 = g.from in
+                let g1 = g.up in
+                absurd (omega (arith, c, g0, g1, high)))
+          ])
+      | root e ↦ (let same : first ≡ x.first = ap (λ (z : Node). z.first) e in
+          let g = (bounds y first parent (tree label kids rest) i).from in
+          omega (arith, same, g))
+      | behind a ↦ (let c = (bounds x (first + size kids + 1) parent rest a).from in
+          elim (place y first parent label kids rest i) [
+            | below b ↦ (let g = (bounds y first (first + size kids) kids b).to in absurd (omega (arith, c, g, low)))
+            | root e ↦ (let also : first + size kids ≡ y.id = ap (λ (z : Node). z.id) e in absurd (omega (arith, c, also, low)))
+            | behind b ↦ cross x y (first + size kids + 1) parent rest a b low high
+          ])
+    ]
 
 -- ---- kids
 
@@ -179,11 +190,12 @@ wider n first parent label kids rest k r = record { node = r.node; among = in_fr
 kid_there : (n : Node) (first parent : ℕ) (f : Forest) (k : ℕ) → In n (nodes_of first parent f) → In k n.kids → IsKid (nodes_of first parent f) n.id n.first k
 kid_there n first parent none k h i = absurd h
 kid_there n first parent (tree label kids rest) k h i = elim (place n first parent label kids rest h) [
-    below a ↦ wider n first parent label kids rest k (kid_there n first (first + size kids) kids k a i)
-    | root e ↦ (let j : In k (numbers (roots first kids)) = subst (λ (y : Node). In k y.kids) (sym e) i in
-        wider n first parent label kids rest k (subst (λ (y : Node). IsKid (nodes_of first (first + size kids) kids) y.id y.first k) e (roots_there first (first + size kids) kids k j)))
-    | behind a ↦ (let r = kid_there n (first + size kids + 1) parent rest k a i in
-        record { node = r.node; among = in_back r.node (nodes_of first (first + size kids) kids) (own first parent label kids ∷ nodes_of (first + size kids + 1) parent rest) (inr r.among); numbered = r.numbered; below = r.below; from = r.from }) ]
+  | below a ↦ wider n first parent label kids rest k (kid_there n first (first + size kids) kids k a i)
+  | root e ↦ (let j : In k (numbers (roots first kids)) = subst (λ (y : Node). In k y.kids) (sym e) i in
+      wider n first parent label kids rest k (subst (λ (y : Node). IsKid (nodes_of first (first + size kids) kids) y.id y.first k) e (roots_there first (first + size kids) kids k j)))
+  | behind a ↦ (let r = kid_there n (first + size kids + 1) parent rest k a i in
+      record { node = r.node; among = in_back r.node (nodes_of first (first + size kids) kids) (own first parent label kids ∷ nodes_of (first + size kids + 1) parent rest) (inr r.among); numbered = r.numbered; below = r.below; from = r.from })
+]
 
 -- kids stand in order
 abbrev pub Ascends : List ℕ → Type 0
@@ -201,9 +213,10 @@ roots_ascend first (tree label kids rest) = (roots_above (first + size kids) (fi
 kids_ascend : (n : Node) (first parent : ℕ) (f : Forest) → In n (nodes_of first parent f) → Ascends n.kids
 kids_ascend n first parent none h = absurd h
 kids_ascend n first parent (tree label kids rest) h = elim (place n first parent label kids rest h) [
-    below a ↦ kids_ascend n first (first + size kids) kids a
-    | root e ↦ subst (λ (y : Node). Ascends y.kids) e (roots_ascend first kids)
-    | behind a ↦ kids_ascend n (first + size kids + 1) parent rest a ]
+  | below a ↦ kids_ascend n first (first + size kids) kids a
+  | root e ↦ subst (λ (y : Node). Ascends y.kids) e (roots_ascend first kids)
+  | behind a ↦ kids_ascend n (first + size kids + 1) parent rest a
+]
 
 -- a node without kids, and the first kid of another
 no_roots : (first : ℕ) (f : Forest) → numbers (roots first f) ≡ [] → size f ≡ 0
@@ -213,12 +226,13 @@ no_roots first (tree label kids rest) e = absurd (cc e)
 leaf : (n : Node) (first parent : ℕ) (f : Forest) → In n (nodes_of first parent f) → n.kids ≡ [] → n.first ≡ n.id
 leaf n first parent none h e = absurd h
 leaf n first parent (tree label kids rest) h e = elim (place n first parent label kids rest h) [
-    below a ↦ leaf n first (first + size kids) kids a e
-    | root g ↦ (let same : first ≡ n.first = ap (λ (y : Node). y.first) g in
-        let id : first + size kids ≡ n.id = ap (λ (y : Node). y.id) g in
-        let none_below : size kids ≡ 0 = no_roots first kids (ap (λ (y : Node). y.kids) g ∙ e) in
-        omega (arith, same, id, none_below))
-    | behind a ↦ leaf n (first + size kids + 1) parent rest a e ]
+  | below a ↦ leaf n first (first + size kids) kids a e
+  | root g ↦ (let same : first ≡ n.first = ap (λ (y : Node). y.first) g in
+      let id : first + size kids ≡ n.id = ap (λ (y : Node). y.id) g in
+      let none_below : size kids ≡ 0 = no_roots first kids (ap (λ (y : Node). y.kids) g ∙ e) in
+      omega (arith, same, id, none_below))
+  | behind a ↦ leaf n (first + size kids + 1) parent rest a e
+]
 
 begin_there : (first parent : ℕ) (f : Forest) (k : ℕ) (ks : List ℕ) → numbers (roots first f) ≡ k ∷ ks → (m : Node) × In m (nodes_of first parent f) × (m.id ≡ k) × (m.first ≡ first)
 begin_there first parent none k ks e = absurd (cc e)
@@ -229,11 +243,12 @@ begin_there first parent (tree label kids rest) k ks e =
 first_there : (n : Node) (first parent : ℕ) (f : Forest) (k : ℕ) (ks : List ℕ) → In n (nodes_of first parent f) → n.kids ≡ k ∷ ks → (m : Node) × In m (nodes_of first parent f) × (m.id ≡ k) × (m.first ≡ n.first)
 first_there n first parent none k ks h e = absurd h
 first_there n first parent (tree label kids rest) k ks h e = elim (place n first parent label kids rest h) [
-    below a ↦ (let r = first_there n first (first + size kids) kids k ks a e in (r.0, in_front r.0 (nodes_of first (first + size kids) kids) (own first parent label kids ∷ nodes_of (first + size kids + 1) parent rest) r.1, r.2, r.3))
-    | root g ↦ (let r = begin_there first (first + size kids) kids k ks (ap (λ (y : Node). y.kids) g ∙ e) in
-        (r.0, in_front r.0 (nodes_of first (first + size kids) kids) (own first parent label kids ∷ nodes_of (first + size kids + 1) parent rest) r.1, r.2, r.3 ∙ ap (λ (y : Node). y.first) g))
-    | behind a ↦ (let r = first_there n (first + size kids + 1) parent rest k ks a e in
-        (r.0, in_back r.0 (nodes_of first (first + size kids) kids) (own first parent label kids ∷ nodes_of (first + size kids + 1) parent rest) (inr r.1), r.2, r.3)) ]
+  | below a ↦ (let r = first_there n first (first + size kids) kids k ks a e in (r.0, in_front r.0 (nodes_of first (first + size kids) kids) (own first parent label kids ∷ nodes_of (first + size kids + 1) parent rest) r.1, r.2, r.3))
+  | root g ↦ (let r = begin_there first (first + size kids) kids k ks (ap (λ (y : Node). y.kids) g ∙ e) in
+      (r.0, in_front r.0 (nodes_of first (first + size kids) kids) (own first parent label kids ∷ nodes_of (first + size kids + 1) parent rest) r.1, r.2, r.3 ∙ ap (λ (y : Node). y.first) g))
+  | behind a ↦ (let r = first_there n (first + size kids + 1) parent rest k ks a e in
+      (r.0, in_back r.0 (nodes_of first (first + size kids) kids) (own first parent label kids ∷ nodes_of (first + size kids + 1) parent rest) (inr r.1), r.2, r.3))
+]
 
 -- ---- those of a tree
 

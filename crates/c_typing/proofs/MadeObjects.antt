@@ -78,6 +78,7 @@ innermost_in best (a ∷ names) e h = by (innermost_in (inner_of best a) names e
         at : (c : Bool) → (if c then Some a else Some b) ≡ Some e → (Some b ≡ Some e) ⊎ In e (a ∷ names)
         at true k = inr (inl (cc k))
         at false k = inl k
+
     by : (inner_of best a ≡ Some e) ⊎ In e names → (best ≡ Some e) ⊎ In e (a ∷ names)
     by (inl g) = inner best g
     by (inr g) = inr (inr g)
@@ -161,20 +162,25 @@ module _ (tokens : List Token) (t : Tree) (derived : IsTreeOf tokens t) (ok : Cl
     where
       is_object : Entity → Bool
       is_object y = is_object_entity y
+
       may : (x y : Name) (u : CType) (o : Option CType) (n : ℕ) → last_or None (earlier (places t) x) ≡ Some y → declared_twice (places t) x u o n ≡ [] → may_be_again (places t) x y ≡ true
       may x y u o n l g = by (may_be_again (places t) x y) refl
         where
           at : broken_if (not (may_be_again (places t) x y && agree_with u o)) 3 n ≡ []
           at = subst (λ q. broken_if (is_refused (places t) x u o q) 3 n ≡ []) l g
+
           by : (b : Bool) → may_be_again (places t) x y ≡ b → may_be_again (places t) x y ≡ true
           by true q = q
           by false q = let bad : broken_if true 3 n ≡ [] = subst (λ b. broken_if (not (b && agree_with u o)) 3 n ≡ []) q at in absurd (cc bad)
+
       entity_so : (a : Entity) → is_static a ≡ true → a ≡ static_object
       entity_so static_object q = refl
       entity_so _ q = absurd (true≢false (sym q))
+
       static_at : (a : Entity) → (are_functions a static_object || is_static a && is_static static_object && is_file_scope (places t).nodes x.scope) && not (is_initialized (places t) x && list_any (is_initialized (places t)) (earlier (places t) x)) ≡ true → is_static a ≡ true
       static_at static_object q = refl
       static_at _ q = absurd (true≢false (sym q))
+
       static_so : may_be_again (places t) x y ≡ true → y.entity ≡ static_object
       static_so q = entity_so y.entity (static_at y.entity (subst (λ z. (are_functions y.entity z || is_static y.entity && is_static z && is_file_scope (places t).nodes x.scope) && not (is_initialized (places t) x && list_any (is_initialized (places t)) (earlier (places t) x)) ≡ true) e q))
 
@@ -198,6 +204,7 @@ module _ (tokens : List Token) (t : Tree) (derived : IsTreeOf tokens t) (ok : Cl
         where
           less : (a b : ℕ) → nat_lt a b ≡ true → a < b
           less a b q = grind arith
+
           at : (y : Name) → last_or None (earlier (places t) x) ≡ Some y → In y (earlier (places t) x) ⊎ (None ≡ Some y) → First x
           at y l (inr q) = absurd (cc q)
           at y l (inl q) =
@@ -227,6 +234,7 @@ module _ (tokens : List Token) (t : Tree) (derived : IsTreeOf tokens t) (ok : Cl
     where
       zero_is : (n : ℕ) → n ≡ 0 → (n == 0) ≡ true
       zero_is n q = grind arith
+
       passes : (a b c : Bool) → a ≡ true → b ≡ true → c ≡ true → a && b && c ≡ true
       passes true true true q r s = refl
       passes false b c q r s = absurd (true≢false (sym q))
@@ -239,6 +247,7 @@ module _ (tokens : List Token) (t : Tree) (derived : IsTreeOf tokens t) (ok : Cl
     where
       at : no_definition (is_there (places t) e e.entity) node.id ≡ []
       at = subst (λ q. use_faults (places t) node q ≡ []) same h
+
       by : (b : Bool) → is_there (places t) e e.entity ≡ b → is_there (places t) e e.entity ≡ true
       by true g = g
       by false g = let bad : broken_if true 17 node.id ≡ [] = subst (λ b. no_definition b node.id ≡ []) g at in absurd (cc bad)

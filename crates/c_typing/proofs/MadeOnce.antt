@@ -74,9 +74,11 @@ module _ (tokens : List Token) (t : Tree) (derived : IsTreeOf tokens t) where
     where
       or_not : (i j : ℕ) → (i < j) ⊎ (j ≤ i)
       or_not i j = grind arith
+
       is_function_kind : SynKind → Bool
       is_function_kind kind.Function = true
       is_function_kind k = false
+
       by : (a < y.first) ⊎ (y.first ≤ a) → a < y.first
       by (inl less) = less
       by (inr low) =
@@ -89,8 +91,10 @@ module _ (tokens : List Token) (t : Tree) (derived : IsTreeOf tokens t) where
     where
       d : (x : Defined t f) × (x.place ≡ a)
       d = defined_at t a f e
+
       q : (x : Defined t g) × (x.place ≡ b)
       q = defined_at t b g h
+
       by : (c : Bool) → bytes_eq f.name g.name ≡ c → bytes_eq f.name g.name ≡ false
       by false same = same
       by true same =
@@ -115,8 +119,10 @@ module _ (tokens : List Token) (t : Tree) (derived : IsTreeOf tokens t) where
         where
           low_is : (i j : ℕ) → i < j → nat_lt i j ≡ true
           low_is i j l = grind arith
+
           alike : (i j : ℕ) → i ≡ j → (i == j) ≡ true
           alike i j l = grind arith
+
           kid_before : (x : Defined t f) (n : FunctionName tokens t derived x.node) → n.low.id < x.place
           kid_before x n =
               let l = kid_found tokens t derived x.place x.node (kid x.node 1) x.there (kid_in tokens t derived x.place x.node 1 x.there (subst (λ y. 1 < least_kids y) (sym x.is_function) (omega arith))) in

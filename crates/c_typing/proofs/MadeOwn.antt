@@ -64,10 +64,13 @@ module _ (tokens : List Token) (t : Tree) (derived : IsTreeOf tokens t) (e : Nam
       is_param_kind : SynKind → Bool
       is_param_kind kind.Param = true
       is_param_kind k = false
+
       no_param : x.label.kind ≡ kind.Param → ⊥
       no_param q = true≢false (sym b ∙ ap is_body q)
+
       no_list : x.label.kind ≡ kind.Takes → ⊥
       no_list q = true≢false (sym b ∙ ap is_body q)
+
       last : (l.list.id < x.id) ⊎ ((l.list.id ≡ x.id) ⊎ (x.id < l.list.id)) → l.list.id ≤ x.id → (l.list.id < x.id) × (x.first ≤ l.list.first)
       last (inl less) wide = let s = name_stands in
           let s1 = s.within in
@@ -76,6 +79,7 @@ module _ (tokens : List Token) (t : Tree) (derived : IsTreeOf tokens t) (e : Nam
           (less, crossed t x l.list h l.list_in (omega (arith, low, s1, s2, s3)) less)
       last (inr (inl same)) wide = absurd (no_list (ap (λ (y : Node). y.label.kind) (same_id tokens t derived x l.list h l.list_in (sym same)) ∙ l.list_is))
       last (inr (inr more)) wide = absurd (omega (arith, wide, more))
+
       param : (l.param.id < x.id) ⊎ ((l.param.id ≡ x.id) ⊎ (x.id < l.param.id)) → l.param.id ≤ x.id → (l.list.id < x.id) × (x.first ≤ l.list.first)
       param (inl less) wide = let s = name_stands in
           let s1 = s.within in
@@ -83,6 +87,7 @@ module _ (tokens : List Token) (t : Tree) (derived : IsTreeOf tokens t) (e : Nam
           last (three_ways l.list.id x.id) (nested t x l.list l.param.id h l.list_in l.param_kid (omega (arith, low, s1, s2)) less)
       param (inr (inl same)) wide = absurd (no_param (ap (λ (y : Node). y.label.kind) (same_id tokens t derived x l.param h l.param_in (sym same)) ∙ l.param_is))
       param (inr (inr more)) wide = absurd (omega (arith, wide, more))
+
       by : (l.low.low.id < x.id) ⊎ ((l.low.low.id ≡ x.id) ⊎ (x.id < l.low.low.id)) → (l.list.id < x.id) × (x.first ≤ l.list.first)
       by (inl less) = let s1 = (name_stands).within in param (three_ways l.param.id x.id) (nested t x l.param l.low.low.id h l.param_in l.low_kid (omega (arith, low, s1)) less)
       by (inr (inl same)) = absurd (no_body x.label.kind (subst (λ (y : Node). is_declarator y.label.kind ≡ true) (same_id tokens t derived l.low.low x low_in h same) l.low.declares_it) b)
@@ -291,6 +296,7 @@ module _ (tokens : List Token) (t : Tree) (derived : IsTreeOf tokens t) (e : Nam
         where
           alike : (a : ℕ) → (a == a) ≡ true
           alike a = grind arith
+
           at : (w : Node) → last_or None (filter (in_declarator l.list.first) (nodes t)) ≡ Some w → In w (filter (in_declarator l.list.first) (nodes t)) ⊎ (None ≡ Some w) → next_to_name (nodes t) l.list.first ≡ Some l.list
               → is_function (node_at (nodes t) (whole_declarator (nodes t) l.list.first).parent).label.kind ≡ true → (i.node.id ≤ l.list.id) ⊎ Belongs i.node.id
           at w is (inr q) next f = absurd (cc q)

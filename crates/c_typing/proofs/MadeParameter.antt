@@ -106,6 +106,7 @@ module _ (tokens : List Token) (t : Tree) (derived : IsTreeOf tokens t) where
       where
         around : (l.list.id < i.node.id) × (i.node.first ≤ l.list.first)
         around = body_around tokens t derived e l i.node i.among b w.0 w.1
+
         by : (i.node.id ≤ l.list.id) ⊎ Belongs tokens t derived e l i.node.id → ⊥
         by (inl le) = let a = around.0 in absurd (omega (arith, a, le))
         by (inr q) =
@@ -121,6 +122,7 @@ module _ (tokens : List Token) (t : Tree) (derived : IsTreeOf tokens t) where
       where
         last : i.node.id ≡ size t.kids
         last = unit_last tokens t derived i.node i.among u
+
         by : (i.node.id ≤ l.list.id) ⊎ Belongs tokens t derived e l i.node.id → ⊥
         by (inl le) =
             let s = last in
@@ -138,10 +140,13 @@ module _ (tokens : List Token) (t : Tree) (derived : IsTreeOf tokens t) where
       where
         o : In takes (nodes t) × (fn.first ≤ takes.first) × (takes.id < fn.id)
         o = own_inside tokens t derived m fn there is takes own
+
         first_in : takes.first ≤ kid takes 0
         first_in = (kid_within t takes (kid takes 0) o.0 (kid_in tokens t derived takes.id takes 0 (found tokens t derived takes o.0) (subst (λ q. 0 < least_kids q) (sym (own_takes_at t fn takes own).kind_is) (omega arith)))).0
+
         s : Stands tokens t derived e l
         s = name_stands tokens t derived e l
+
         takes_low : takes.id ≤ f.low.id
         takes_low = which (three_ways f.low.id takes.id)
           where
@@ -149,8 +154,10 @@ module _ (tokens : List Token) (t : Tree) (derived : IsTreeOf tokens t) where
             which (inl less) = let b = list_begins m fn takes there f own in absurd (takes_alone takes (own_takes_at t fn takes own).kind_is (larger tokens t derived m fn there is f takes o.0 (omega (arith, b)) less))
             which (inr (inl same)) = omega (arith, same)
             which (inr (inr more)) = omega (arith, more)
+
         kid_of_fn : In i.node.id fn.kids
         kid_of_fn = kid_of_owner i.node i.among k fn parent
+
         by : (i.node.id ≤ l.list.id) ⊎ Belongs tokens t derived e l i.node.id → own_takes (nodes t) fn ≡ Some l.list
         by (inl le) =
             let behind = block_behind i.node i.among k kid_of_fn in
@@ -193,6 +200,7 @@ module _ (tokens : List Token) (t : Tree) (derived : IsTreeOf tokens t) where
           where
             list_at : TakesAt t (parent_of (nodes t) i.node.id) takes
             list_at = own_takes_at t (parent_of (nodes t) i.node.id) takes own
+
             split : Within i.node n ⊎ Behind takes n → Within i.node e.node ⊎ Behind takes e.node → own_takes (nodes t) fn ≡ Some l.list
             split (inr w) v = absurd (no_takes tokens t derived m fn there is n node takes at var c list_at.among list_at.kind_is w)
             split (inl w) (inl v) = absurd (body_no (ap is_body k) v)

@@ -99,6 +99,7 @@ module _ (tokens : List Token) (t : Tree) (derived : IsTreeOf tokens t) (m : ℕ
         where
           no_unit_kind : x.label.kind ≡ kind.Unit → ⊥
           no_unit_kind z = true≢false (ap is_unit (sym z ∙ e))
+
       kid_of_first : (q : Node) → In q (nodes t) → In x.id q.kids → q.first ≤ x.first
       kid_of_first q i k =
           let f = kid_found tokens t derived q.id q x.id (found tokens t derived q i) k in
@@ -130,6 +131,7 @@ module _ (tokens : List Token) (t : Tree) (derived : IsTreeOf tokens t) (m : ℕ
           let v0 = v.0 in
           let v1 = v.1 in
           (omega (arith, r0, v0), omega (arith, r1, v1))
+
       in_takes : (z : ℕ) → Within x n → Behind takes z → (fn.first ≤ z) × (z < fn.id)
       in_takes z w v =
           let owner = block_owner n x h k f w c.from c.to in
@@ -140,6 +142,7 @@ module _ (tokens : List Token) (t : Tree) (derived : IsTreeOf tokens t) (m : ℕ
           let v0 = v.0 in
           let v1 = v.1 in
           (omega (arith, o1, first, v0), omega (arith, o2, v1))
+
       by : Within x n ⊎ Behind takes n → Within x e.node ⊎ Behind takes e.node → (fn.first ≤ e.node) × (e.node < fn.id)
       by (inl w) (inl v) = in_block e.node w v
       by (inl w) (inr v) = in_takes e.node w v

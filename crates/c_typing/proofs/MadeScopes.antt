@@ -32,8 +32,9 @@ pub data ScopeAt (t : Tree) (c : Scope) (n : ℕ) : Type 0 where
 pub scopes_in : (s ns : List Node) (c : Scope) → In c (scopes_from s ns) → (x : Node) × In x ns × In c (scope_by s x x.label.kind)
 scopes_in s [] c h = absurd h
 scopes_in s (x ∷ ns) c h = elim (in_either c (scope_by s x x.label.kind) (scopes_from s ns) h) [
-    inl a ↦ (x, inl refl, a)
-    | inr b ↦ (let m = scopes_in s ns c b in (m.0, inr m.1, m.2)) ]
+  | inl a ↦ (x, inl refl, a)
+  | inr b ↦ (let m = scopes_in s ns c b in (m.0, inr m.1, m.2))
+]
 
 pub plain_so : (x : Node) (from n : ℕ) (c : Scope) → In c (plain_scope x from) → in_scope c n ≡ true → (c.owner ≡ x.id) × (from ≤ n) × (n ≤ x.id)
 plain_so x from n c (inl e) h =
@@ -44,6 +45,7 @@ plain_so x from n c (inl e) h =
   where
     low_two : (a : ℕ) → nat_le 1 a && nat_le a 0 ≡ true → ⊥
     low_two a g = let b = both_true (nat_le 1 a) (nat_le a 0) g in let c1 = low_so 1 a b.0 in let c2 = low_so a 0 b.1 in absurd (omega (arith, c1, c2))
+
     within : (a b c : Bool) → b ≡ nat_le 1 n → c ≡ nat_le n 0 → a || (b && c) ≡ true → a ≡ true
     within true b c f g h2 = refl
     within false b c f g h2 = absurd (low_two n (subst (λ u. u && nat_le n 0 ≡ true) f (subst (λ u. b && u ≡ true) g h2)))

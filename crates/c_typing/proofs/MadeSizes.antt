@@ -88,6 +88,7 @@ greatest_is (m ∷ ms) h = more m.align (greatest_align ms) (h.0).align (greates
   where
     either_is : (a b : ℕ) → (max a b ≡ a) ⊎ (max a b ≡ b)
     either_is a b = grind arith
+
     more : (a b : ℕ) → IsAlignment a → IsAlignment b → IsAlignment (max a b)
     more a b f g = by (either_is a b)
       where

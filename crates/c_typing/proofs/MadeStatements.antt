@@ -267,10 +267,15 @@ module _ (t : Tree) (X : ℕ → Typing → ℕ → Type 0) (V : ℕ → Expr �
     for_end : node.label.kind ≡ kind.For → (test : Option Typing) → for_part (places t) js (kid node 1) ≡ Some test → (first : Stmt) → first_by js (kid node 0) (kind_at (nodes t) (kid node 0)) ≡ Some first
         → (step : Option Typing) → for_part (places t) js (kid node 2) ≡ Some step → (s : Stmt) → statement_at js (kid node 3) ≡ Some s → Good (length js) (does (block_of (first ∷ loop (code_in test) (code_in step) s ∷ [])))
     for_end e test f first g step h s i = only kind.For (block_of (first ∷ loop (code_in test) (code_in step) s ∷ [])) e refl
-        (c.in_block (length js) (first ∷ loop (code_in test) (code_in step) s ∷ []) (first_good e (kind_at (nodes t) (kid node 0)) refl first g,
-        (c.looped (length js) (kid node 3) node (code_in test) (code_in step) s there (ap is_loop e) (in_kid kind.For 3 e (omega arith))
-        (part_good 1 e (in_kid kind.For 1 e (omega arith)) (kind_at (nodes t) (kid node 1)) test f) (part_good 2 e (in_kid kind.For 2 e (omega arith)) (kind_at (nodes t) (kid node 2)) step h)
-        (statement_of (kid node 3) s i), tt)))
+        (c.in_block (length js) (first ∷ loop (code_in test) (code_in step) s ∷ []) (
+          first_good e (kind_at (nodes t) (kid node 0)) refl first g,
+          (
+            c.looped (length js) (kid node 3) node (code_in test) (code_in step) s there (ap is_loop e) (in_kid kind.For 3 e (omega arith))
+                (part_good 1 e (in_kid kind.For 1 e (omega arith)) (kind_at (nodes t) (kid node 1)) test f) (part_good 2 e (in_kid kind.For 2 e (omega arith)) (kind_at (nodes t) (kid node 2)) step h)
+                (statement_of (kid node 3) s i),
+            tt,
+          ),
+        ))
 
     for_row : node.label.kind ≡ kind.For → Yields (Good (length js)) (for_statement (places t) js node)
     unfolding for_statement

@@ -60,6 +60,7 @@ module _ (tokens : List Token) (t : Tree) (derived : IsTreeOf tokens t) where
     where
       or_not : (a b : ℕ) → (a < b) ⊎ (b ≤ a)
       or_not a b = grind arith
+
       by : (n < size t.kids) ⊎ (size t.kids ≤ n) → n < size t.kids
       by (inl lt) = lt
       by (inr most) =
@@ -74,6 +75,7 @@ module _ (tokens : List Token) (t : Tree) (derived : IsTreeOf tokens t) where
     where
       or_not : (a b : ℕ) → (a < b) ⊎ (b ≤ a)
       or_not a b = grind arith
+
       by : (n < size t.kids) ⊎ (size t.kids ≤ n) → size t.kids ≤ n
       by (inr most) = most
       by (inl lt) =
@@ -137,6 +139,7 @@ module _ (tokens : List Token) (t : Tree) (derived : IsTreeOf tokens t) where
     where
       or_not : (a b : ℕ) → (a < b) ⊎ (b ≤ a)
       or_not a b = grind arith
+
       by : (n < size t.kids) ⊎ (size t.kids ≤ n) → HasParent t n m
       by (inl lt) = node_has_parent tokens t derived n m e lt
       by (inr most) =

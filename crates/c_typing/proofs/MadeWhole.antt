@@ -25,6 +25,7 @@ last_is {A} f (x ∷ xs) zero m o e g h = by (f x) refl (none xs (λ k y i j. h 
   where
     same : x ≡ m
     same = cc e
+
     none : (ys : List A) → ((k : ℕ) (y : A) → slice_get ys k ≡ Some y → f y ≡ true → ⊥) → filter f ys ≡ []
     none [] i = refl
     none (y ∷ ys) i = at (f y) refl (none ys (λ k z. i (suc k) z))
@@ -32,6 +33,7 @@ last_is {A} f (x ∷ xs) zero m o e g h = by (f x) refl (none xs (λ k y i j. h 
         at : (b : Bool) → f y ≡ b → filter f ys ≡ [] → cond b (y ∷ filter f ys) (filter f ys) ≡ []
         at true j more = absurd (i 0 y refl j)
         at false j more = more
+
     by : (b : Bool) → f x ≡ b → filter f xs ≡ [] → last_or o (cond b (x ∷ filter f xs) (filter f xs)) ≡ Some m
     by true i more = ap (λ ys. last_or (Some x) ys) more ∙ ap Some same
     by false i more = absurd (true≢false (sym (subst (λ y. f y ≡ true) (sym same) g) ∙ i))
@@ -111,6 +113,7 @@ module _ (tokens : List Token) (t : Tree) (derived : IsTreeOf tokens t) where
       where
         apart : (a b : ℕ) → (a == b) ≡ false → a ≤ b → a < b
         apart a b h2 g = grind arith
+
         by : (b : Bool) → (s.parent.id == x.id) ≡ b → In s.parent (nodes t) → s.parent.id ≤ x.id → s.parent.first ≤ s.node.first → n < s.parent.id → s.node.id ≡ n → s.node.first ≤ s.node.id → (s.parent ≡ x) ⊎ ((s.parent.first ≡ s.node.first) × (s.parent.id < x.id))
         by true e q wide from inner id up =
             let same : Some s.parent ≡ Some x = sym (found tokens t derived s.parent q) ∙ (ap (λ j. slice_get (nodes t) j) (equal_so s.parent.id x.id e) ∙ found tokens t derived x h) in
@@ -168,23 +171,30 @@ module _ (tokens : List Token) (t : Tree) (derived : IsTreeOf tokens t) where
       where
         init : category_at t nq ≡ category.init_declarator
         init = let c = category_is tokens t derived nq s.parent s.above in c.1 ∙ subst (λ l. category_by l s.parent.label.text c.0 ≡ category.init_declarator) (sym e) refl
+
         init_no_unit : category.init_declarator ≡ category.unit → ⊥
         init_no_unit u = cc u
+
         declares : (k : SynKind) → stands_in category.init_declarator k ≡ true → k ≡ kind.Declaration
         declares kind.Declaration g = refl
         declares _ g = absurd (true≢false (sym g))
+
         above : HasParent t nq s.parent
         above = has_parent tokens t derived nq s.parent s.above (λ u. init_no_unit (sym init ∙ u))
+
         by : (x : Node) → In x (nodes t) → x.first ≡ s.node.first → is_declarator x.label.kind ≡ true → (s.parent ≡ x) ⊎ ((s.parent.first ≡ s.node.first) × (s.parent.id < x.id)) → ⊥
         by x h f d (inl same) = true≢false (sym d ∙ (ap (λ (m : Node). is_declarator m.label.kind) (sym same) ∙ ap is_declarator e))
         by x h f d (inr g) = last (above_so nq s.parent.parent upper x h (f ∙ sym g.0) g.1)
           where
             upper : Stem nq s.parent.parent
             upper = record { node = s.parent; there = s.above; parent = above.parent; above = above.found; kid = subst (λ ks. In nq ks) (sym above.among) (in_back nq above.front (nq ∷ above.back) (inl refl)) }
+
             is_declaration : above.parent.label.kind ≡ kind.Declaration
             is_declaration = declares above.parent.label.kind (subst (λ c. stands_in c above.parent.label.kind ≡ true) init above.stands)
+
             known : category_at t s.parent.parent ≡ category.declaration
             known = let c = category_is tokens t derived s.parent.parent above.parent above.found in c.1 ∙ subst (λ l. category_by l above.parent.label.text c.0 ≡ category.declaration) (sym is_declaration) refl
+
             last : (above.parent ≡ x) ⊎ ((above.parent.first ≡ s.parent.first) × (above.parent.id < x.id)) → ⊥
             last (inl same) = true≢false (sym d ∙ (ap (λ (m : Node). is_declarator m.label.kind) (sym same) ∙ ap is_declarator is_declaration))
             last (inr h2) = true≢false (sym (begins_so s.parent.parent above.parent above.found (h2.0 ∙ g.0)) ∙ ap begins_named known)
