@@ -1,5 +1,5 @@
 -- What is proved of a typed unit so far: most facts of a unit that is well made.
-use Rattle.std.proofs.Common.{◌≡◌, ℕ, false, ◌<◌, ◌≤◌, List, [], length, Some, refl, sym, ap, ◌∙◌, subst, true}
+use Rattle.std.proofs.Common.{◌≡◌, ℕ, false, ◌≤◌, List, Some, subst, true}
 use Rattle.std.specs.Prelude.{slice_get, codes, Contains}
 use Rattle.std.specs.List.{IsDistinct}
 use Rattle.std.specs.Str.{bytes_eq}
@@ -19,7 +19,7 @@ use Rattle.c_typing.specs.Names.{places}
 use Rattle.c_typing.specs.Judgements.{means, declares, defines, judgement_at}
 use Rattle.c_typing.specs.Shapes as category
 use Rattle.c_typing.specs.ShapesOfNodes.{category_at}
-use Rattle.c_typing.specs.Typing.{judgements_at, unit_in, unit_of, faults, IsTyped}
+use Rattle.c_typing.specs.Typing.{judgements_at, unit_in, unit_of, IsTyped}
 use Rattle.c_typing.proofs.MadeData as placed
 use Rattle.c_typing.proofs.MadeDefined.{Clean, clean, few_parameters, parameters_are_locals}
 use Rattle.c_typing.proofs.MadeSizes.{alignments}

@@ -1,6 +1,6 @@
 -- Each address in the data has four bytes, and is that of an object.
-use Rattle.std.proofs.Common.{◌≡◌, ◌⊎◌, inl, inr, ℕ, zero, suc, ◌+◌, ◌<◌, ◌≤◌, Bool, true, false, cond, ◌||◌, ◌&&◌, not, List, [], ◌∷◌, ◌++◌, length, map, Option, Some, None, refl, sym, ap, ◌∙◌, subst, arith, true≢false, unwrap_or}
-use Rattle.std.specs.Prelude.{slice_get, if◌then◌else◌, option_map, flat_map, filter, codes}
+use Rattle.std.proofs.Common.{◌≡◌, ℕ, ◌+◌, ◌<◌, Bool, true, false, ◌||◌, not, List, [], ◌∷◌, ◌++◌, length, map, Option, Some, None, refl, sym, ap, ◌∙◌, subst, arith, true≢false, unwrap_or}
+use Rattle.std.specs.Prelude.{slice_get, if◌then◌else◌, option_map, flat_map, codes}
 use Rattle.std.specs.List.{AllByRecursion, range_with_len}
 use Rattle.std.specs.Str.{bytes_eq}
 use Rattle.c_lexer.specs.declared.token.Token.{Token}
@@ -11,31 +11,27 @@ use Rattle.c_grammar.specs.Derivation.{IsTreeOf}
 use Rattle.c_types.specs.declared.tree.COp.TheVariants as op
 use Rattle.c_types.specs.declared.tree.Expr.{Expr}
 use Rattle.c_types.specs.declared.tree.Cell.{Cell}
-use Rattle.c_types.specs.declared.tree.CellValue.{CellValue}
-use Rattle.c_types.specs.declared.tree.CellValue.TheVariants.{Number, Address}
 use Rattle.c_types.specs.declared.tree.Object.{Object}
 use Rattle.c_types.specs.declared.tree.Stmt.{Stmt}
-use Rattle.c_types.specs.Forms.{const, address, binary, choose}
+use Rattle.c_types.specs.Forms.{const, choose}
 use Rattle.c_types.specs.WellMade.{AddressFits, InEveryCell}
 use Rattle.c_typing.specs.Types.{CType, void, integer, pointer, array, unsized, struct, function, IntegerType, int, promoted, integer_of, target_of, Layout, size_of, is_array, is_struct, is_scalar, is_text_array}
 use Rattle.c_typing.specs.Places.{Node, nodes, node_at, kind_at, kid, has_kid, is_whole, is_string}
-use Rattle.c_typing.specs.Names.{Places, places, Name, Entity, typedef_name, function_name, static_object, enumerator, is_static, denoted, object_number, objects_of}
-use Rattle.c_typing.specs.Judgements.{Callee, Form, callee, Constant, no_constant, undefined, number, null_pointer, zero_pointer, address_of, undefined_address, place_at, Typing, Fault, Meaning, fills_array, expresses, initialized, initial, performs, labels, defines, declares, Judgement, means, verdict, besides, given, judgement_at, typing_at, type_at, layouts, all_of}
-use Rattle.c_typing.specs.Conversions.{valued, value_of, result, Operator, operator_of, converted_code, converted_word}
-use Rattle.c_typing.specs.Rules.{bad_conversion, not_constant_for, is_constant_for, is_constant, out_of_range, broken_if, bad_initializer}
-use Rattle.c_typing.specs.Constants.{operated, chosen_constant, binary_constant, cast_constant, part_at, element_at, address_constant}
-use Rattle.c_typing.specs.Expressions.{literal, literals_before, expression, type_of_name, word_of_enumerator, field_of, no_field, element_typing, variable_by, variable, prefix_step, postfix_step, subscript_constant, subscript, called, call_by, member_typing, dot, arrow, address_operator, dereference, sign_typing, sign_operator, not_operator, unary, measured_type, cast, operator_with, binary_by, binary_operator, conditional, comma, assignment, compound_by, assign}
-use Rattle.c_typing.specs.Initializers.{string, cell, constant_cell, text_cells, moved, Part, part, scalar_part, value_part, braced_part, part_by, part_for, part_of, part_offset, kid_part, is_too_long, is_static_name, init_around, count_in, braces_for, braces, initialized_object, init_by, init_declarator, is_object, bare_code}
+use Rattle.c_typing.specs.Names.{places, Name, Entity, typedef_name, function_name, static_object, enumerator, is_static, denoted, objects_of}
+use Rattle.c_typing.specs.Judgements.{Callee, Form, callee, Constant, no_constant, number, address_of, Typing, Fault, Meaning, fills_array, expresses, initialized, initial, declares, Judgement, means, verdict, judgement_at, typing_at, type_at, layouts, all_of}
+use Rattle.c_typing.specs.Conversions.{valued, value_of, result, Operator, operator_of}
+use Rattle.c_typing.specs.Rules.{bad_conversion, not_constant_for, is_constant_for, out_of_range, broken_if, bad_initializer}
+use Rattle.c_typing.specs.Constants.{operated, chosen_constant, binary_constant, cast_constant, part_at, address_constant}
+use Rattle.c_typing.specs.Expressions.{literal, expression, type_of_name, word_of_enumerator, field_of, no_field, element_typing, variable_by, variable, prefix_step, postfix_step, subscript_constant, subscript, called, call_by, member_typing, dot, arrow, address_operator, dereference, sign_typing, sign_operator, not_operator, unary, measured_type, cast, operator_with, binary_by, binary_operator, conditional, comma, assignment, compound_by, assign}
+use Rattle.c_typing.specs.Initializers.{string, constant_cell, text_cells, moved, Part, part, scalar_part, value_part, braced_part, part_by, part_for, part_of, part_offset, kid_part, is_too_long, is_static_name, init_around, count_in, braces_for, braces, initialized_object, init_by, init_declarator, is_object, bare_code}
 use Rattle.c_typing.specs.Shapes as category
 use Rattle.c_typing.specs.ShapesOfNodes.{category_at}
-use Rattle.c_typing.specs.Typing.{in_parentheses, choice_node, call_node, cast_node, judged_by, judgements_at, data_of, object_of, cells_in, declarations_of, literal_object, literals_of, unit_in}
+use Rattle.c_typing.specs.Typing.{in_parentheses, choice_node, judged_by, judgements_at, data_of, object_of, cells_in, declarations_of, literal_object, literals_of, unit_in}
 use Rattle.c_typing.proofs.MadeJudged.{Yields, yields_verdict, yields_besides, yields_given, IsFront, Known, all_known, meant_later}
-use Rattle.c_typing.proofs.MadeNodes.{In}
-use Rattle.c_typing.proofs.MadeForms.{is_active, is_passive_kind, yields_if, yields_if_so, passive_row, struct_row}
+use Rattle.c_typing.proofs.MadeForms.{is_active, is_passive_kind, yields_if, passive_row, struct_row}
 use Rattle.c_typing.proofs.MadeForms.{paren_row as in_paren}
 use Rattle.c_typing.proofs.MadeParts.{typing_meant, all_parts}
 use Rattle.c_typing.proofs.MadeDefined.{Clean}
-use Rattle.c_typing.proofs.MadeAnything.{any_row}
 use Rattle.c_typing.proofs.MadeOthers.{is_statement_kind, statement_kind_row, function_row}
 use Rattle.c_typing.proofs.MadeStatements.{is_expression_kind}
 use Rattle.c_typing.proofs.MadeObjects.{data_length, literal_below, object_below}

@@ -1,15 +1,15 @@
 -- What holds of all expressions holds of the meanings of their nodes.
-use Rattle.std.proofs.Common.{◌≡◌, ℕ, Bool, true, false, List, [], ◌∷◌, Option, Some, None, refl, sym, true≢false}
+use Rattle.std.proofs.Common.{◌≡◌, ℕ, true, false, List, Option, Some, None, sym, true≢false}
 use Rattle.c_syntax.specs.declared.kind.SynKind.{SynKind}
 use Rattle.c_syntax.specs.declared.kind.SynKind.TheVariants as kind
 use Rattle.c_typing.specs.Types.{CType, pointer, function}
 use Rattle.c_typing.specs.Places.{Node, kid}
 use Rattle.c_typing.specs.Names.{Places, Name, Entity, typedef_name, function_name, static_object, enumerator, denoted}
-use Rattle.c_typing.specs.Judgements.{PlacedStep, steps, Meaning, expresses, fills_array, Judgement, means, Typing, Form, callee, Callee, typing_at}
+use Rattle.c_typing.specs.Judgements.{PlacedStep, steps, Meaning, expresses, Judgement, Typing, Form, callee, Callee, typing_at}
 use Rattle.c_typing.specs.Conversions.{Operator}
 use Rattle.c_typing.specs.Initializers.{string}
 use Rattle.c_typing.specs.Expressions.{variable_by, variable, prefix_step, postfix_step, subscript, called, call_by, dot, arrow, address_operator, dereference, sign_operator, not_operator, unary, measured_type, cast, binary_by, binary_operator, conditional, comma, assignment, compound_by, assign}
-use Rattle.c_typing.specs.Typing.{judged_by, with_operand, with_operands, choice_node, call_node, cast_node, in_parentheses}
+use Rattle.c_typing.specs.Typing.{judged_by, in_parentheses}
 use Rattle.c_typing.proofs.MadeJudged.{Yields, yields_verdict, yields_besides, yields_given}
 use Rattle.c_typing.proofs.MadeForms.{is_active, yields_if, paren_row}
 use Rattle.c_typing.proofs.MadeStatements.{is_expression_kind}

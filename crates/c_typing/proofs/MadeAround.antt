@@ -1,17 +1,16 @@
 -- The loops and switches around a node.
-use Rattle.std.proofs.Common.{◌≡◌, ◌⊎◌, inl, inr, ℕ, zero, suc, ◌+◌, ◌<◌, ◌≤◌, Bool, cond, true, false, ◌&&◌, ◌||◌, not, List, [], ◌∷◌, ◌++◌, length, Option, Some, None, refl, sym, ap, ◌∙◌, subst, arith, true≢false, leb→le, le→leb}
+use Rattle.std.proofs.Common.{◌≡◌, ◌⊎◌, inl, inr, ℕ, ◌<◌, ◌≤◌, Bool, cond, true, false, ◌&&◌, ◌||◌, not, List, [], ◌∷◌, Some, refl, sym, ap, ◌∙◌, subst, arith, true≢false}
 use Rattle.std.specs.Prelude.{slice_get, nat_le, ◌==◌, find}
 use Rattle.std.specs.List.{list_any}
 use Rattle.std.specs.Option.{is_some}
 use Rattle.c_lexer.specs.declared.token.Token.{Token}
 use Rattle.c_syntax.specs.declared.kind.SynKind.{SynKind}
-use Rattle.c_syntax.specs.declared.kind.SynKind.TheVariants as kind
-use Rattle.c_syntax.specs.Trees.{Tree, one}
+use Rattle.c_syntax.specs.Trees.{Tree}
 use Rattle.c_grammar.specs.Derivation.{IsTreeOf}
-use Rattle.c_typing.specs.Places.{Node, nodes, holds, around}
+use Rattle.c_typing.specs.Places.{Node, nodes, holds}
 use Rattle.c_typing.specs.Names.{places}
 use Rattle.c_typing.specs.Statements.{is_inside}
-use Rattle.c_typing.proofs.MadeNodes.{In, in_at, at_in, nested, kid_within, node_bounds}
+use Rattle.c_typing.proofs.MadeNodes.{In, in_at, nested, kid_within}
 use Rattle.c_typing.proofs.MadePlaced.{numbered, found}
 
 -- ---- tests

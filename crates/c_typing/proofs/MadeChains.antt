@@ -1,10 +1,10 @@
 -- The steps of a declarator begin with what stands next to its name.
-use Rattle.std.proofs.Common.{◌≡◌, ◌⊎◌, inl, inr, ℕ, zero, suc, ◌+◌, ◌<◌, ◌≤◌, Bool, true, false, ◌||◌, ◌&&◌, not, cond, List, [], ◌∷◌, ◌++◌, length, map, Option, Some, None, refl, sym, ap, ◌∙◌, subst, arith, true≢false, unwrap_or}
+use Rattle.std.proofs.Common.{◌≡◌, ◌⊎◌, inl, inr, ℕ, zero, suc, ◌<◌, ◌≤◌, Bool, true, false, ◌&&◌, cond, List, [], ◌∷◌, ◌++◌, length, map, Some, refl, sym, ap, ◌∙◌, subst, arith, true≢false, unwrap_or}
 use Rattle.std.specs.Prelude.{slice_get, find, ◌==◌}
 use Rattle.c_lexer.specs.declared.token.Token.{Token}
 use Rattle.c_syntax.specs.declared.kind.SynKind.{SynKind}
 use Rattle.c_syntax.specs.declared.kind.SynKind.TheVariants as kind
-use Rattle.c_syntax.specs.Trees.{Tree, one}
+use Rattle.c_syntax.specs.Trees.{Tree}
 use Rattle.c_syntax.specs.Tables.{table_of}
 use Rattle.c_grammar.specs.Derivation.{IsTreeOf}
 use Rattle.c_typing.specs.Types.{CType, types_of}
@@ -14,7 +14,7 @@ use Rattle.c_typing.specs.Declarators.{with_step}
 use Rattle.c_typing.specs.Shapes.{Category, kids_fit, at_places, categories_of}
 use Rattle.c_typing.specs.ShapesOfNodes.{as_id}
 use Rattle.c_typing.proofs.ShapesNodes.{node_placed}
-use Rattle.c_typing.proofs.MadeNodes.{In, in_at, nested, node_bounds, kid_within, leaf_first, first_kid}
+use Rattle.c_typing.proofs.MadeNodes.{In, in_at, nested, node_bounds, leaf_first, first_kid}
 use Rattle.c_typing.proofs.MadeParts.{least_kids}
 use Rattle.c_typing.proofs.MadePlaced.{numbered, found, kid_in}
 use Rattle.c_typing.proofs.MadeAround.{both_true, and_true, equal_so}

@@ -1,6 +1,6 @@
 -- What holds of all expressions and statements of the functions, where it holds of those that name something.
-use Rattle.std.proofs.Common.{◌≡◌, ◌⊎◌, inl, inr, ℕ, zero, suc, ◌+◌, ◌<◌, ◌≤◌, Bool, true, false, cond, ◌||◌, ◌&&◌, List, [], ◌∷◌, ◌++◌, length, map, Option, Some, None, refl, sym, ap, ◌∙◌, subst, arith, true≢false, unwrap_or}
-use Rattle.std.specs.Prelude.{slice_get, if◌then◌else◌, filter_map, ◌==◌, codes}
+use Rattle.std.proofs.Common.{◌≡◌, ℕ, suc, ◌+◌, ◌<◌, Bool, true, false, ◌||◌, List, [], ◌∷◌, length, map, Option, Some, None, refl, sym, ap, ◌∙◌, subst, arith, true≢false, unwrap_or}
+use Rattle.std.specs.Prelude.{slice_get, if◌then◌else◌, ◌==◌, codes}
 use Rattle.std.specs.Str.{bytes_eq}
 use Rattle.std.specs.List.{AllByRecursion}
 use Rattle.c_lexer.specs.declared.token.Token.{Token}
@@ -12,17 +12,17 @@ use Rattle.c_types.specs.declared.tree.COp.TheVariants as op
 use Rattle.c_types.specs.declared.tree.Expr.{Expr}
 use Rattle.c_types.specs.declared.tree.Stmt.{Stmt}
 use Rattle.c_types.specs.declared.tree.Func.{Func}
-use Rattle.c_types.specs.Forms.{const, address, local, set_local, load, store, binary, convert, both, either, choose, seq, call, get_char, put_char, copy, expr_row, length_of, unset}
+use Rattle.c_types.specs.Forms.{const, address, local, set_local, store, binary, choose, call, get_char, put_char, copy, expr_row, length_of, unset}
 use Rattle.c_types.specs.Every.{EveryExpr, EveryExprIn, EveryStmt, own_exprs}
 use Rattle.c_typing.specs.Types.{CType, CTypes, void, integer, pointer, array, unsized, struct, function, IntegerType, int, uint, promoted, integer_of, target_of, listed, Layout, size_of, align_of}
 use Rattle.c_typing.specs.Places.{Node, nodes, node_at, kid, other_kids}
-use Rattle.c_typing.specs.Names.{Places, places, Name, Entity, typedef_name, function_name, static_object, automatic, enumerator, parameter, denoted, name_of, object_number, objects_of, local_number}
-use Rattle.c_typing.specs.Judgements.{Callee, reads_input, writes_output, calls, Form, value, in_local, in_memory, temporary, callee, Constant, no_constant, Typing, Fault, Meaning, fills_array, expresses, initialized, labels, performs, defines, Judgement, means, breaks_rules, waits, besides, given, verdict, judgement_at, typing_at, type_at, layouts, all_of}
+use Rattle.c_typing.specs.Names.{places, Name, Entity, typedef_name, function_name, static_object, automatic, enumerator, parameter, denoted, name_of, object_number, objects_of, local_number}
+use Rattle.c_typing.specs.Judgements.{Callee, reads_input, writes_output, calls, Form, value, in_local, in_memory, temporary, callee, Constant, no_constant, Typing, Fault, Meaning, fills_array, expresses, initialized, labels, performs, defines, Judgement, means, breaks_rules, waits, besides, judgement_at, typing_at, type_at, layouts, all_of}
 use Rattle.c_typing.specs.Conversions.{valued, value_of, result_form, result, converted_to, converted_code, Operator, operator_of, scaled}
-use Rattle.c_typing.specs.Rules.{wrong_number, broken_if}
-use Rattle.c_typing.specs.Expressions.{hidden_before, hidden_for, literals_before, literal, callee_of, type_of_name, word_of_enumerator, variable_by, variable, step_operator, stepped, written, written_before, prefix_step, postfix_step, element_typing, subscript_constant, subscript, arguments, passed, first_or, call_code, called, call_by, member_form, field_of, no_field, member_typing, dot, arrow, address_operator, dereference, number_of_type, minus_one, sign_typing, sign_operator, not_operator, unary, measured_type, cast, binary_code, binary_by, binary_operator, conditional, comma, assigned_code, assignment, compound_new, compound_by, assign, expression}
+use Rattle.c_typing.specs.Rules.{wrong_number}
+use Rattle.c_typing.specs.Expressions.{hidden_before, hidden_for, literals_before, literal, callee_of, type_of_name, word_of_enumerator, variable_by, variable, step_operator, stepped, written, written_before, prefix_step, postfix_step, element_typing, subscript, arguments, passed, first_or, call_code, called, call_by, member_form, field_of, no_field, member_typing, dot, arrow, address_operator, dereference, number_of_type, minus_one, sign_typing, sign_operator, not_operator, unary, measured_type, cast, binary_code, binary_by, binary_operator, conditional, comma, assigned_code, assignment, compound_new, compound_by, assign, expression}
 use Rattle.c_typing.specs.Initializers.{string}
-use Rattle.c_typing.specs.Typing.{in_parentheses, choice_node, call_node, cast_node, judged_by, judgements_at, defined_in}
+use Rattle.c_typing.specs.Typing.{in_parentheses, choice_node, call_node, cast_node, judged_by, judgements_at}
 use Rattle.c_typing.proofs.MadeJudged.{Yields, yields_verdict, yields_besides, yields_given, IsFront, Known, meant_later}
 use Rattle.c_typing.proofs.MadeNodes.{In}
 use Rattle.c_typing.proofs.MadeForms.{is_active, yields_if}

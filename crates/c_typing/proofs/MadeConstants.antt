@@ -1,11 +1,11 @@
 -- The objects that constants name.
-use Rattle.std.proofs.Common.{◌≡◌, ℕ, zero, suc, ◌+◌, ◌<◌, Bool, true, false, cond, List, [], ◌∷◌, Option, Some, None, refl}
+use Rattle.std.proofs.Common.{ℕ, ◌<◌, Bool, true, false, List, Option, Some, None}
 use Rattle.std.specs.Prelude.{if◌then◌else◌, ◌==◌}
 use Rattle.c_types.specs.declared.tree.COp.{COp}
 use Rattle.c_types.specs.Operators.{c_operator}
-use Rattle.c_typing.specs.Types.{CType, CTypes, void, integer, pointer, array, unsized, struct, function, Layout, size_of}
+use Rattle.c_typing.specs.Types.{CType, void, integer, pointer, array, unsized, struct, function, Layout, size_of}
 use Rattle.c_typing.specs.Judgements.{Form, value, in_local, in_memory, temporary, callee, Constant, no_constant, undefined, number, null_pointer, zero_pointer, address_of, undefined_address, place_at, Typing}
-use Rattle.c_typing.specs.Conversions.{address_in, read_by, value_by, value_of, Class, multiplicative, additive, subtractive, shift, relational, equality, bitwise, and_then, or_else, points_to_void}
+use Rattle.c_typing.specs.Conversions.{address_in, read_by, value_by, value_of, Class, additive, subtractive, and_then, or_else, points_to_void}
 use Rattle.c_typing.specs.Rules.{is_constant}
 use Rattle.c_typing.specs.Constants.{evaluated, operated, where_formed, truth_of, both_constant, either_constant, chosen_constant, moved_up, moved_down, sum_constant, difference_constant, binary_constant, pointer_cast, integer_cast, cast_constant, part_at, element_at, address_constant}
 

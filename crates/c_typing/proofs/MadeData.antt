@@ -1,14 +1,13 @@
 -- The data of a unit whose ends are within the limit fit.
-use Rattle.std.proofs.Common.{◌≡◌, ℕ, zero, suc, ◌+◌, ◌<◌, ◌≤◌, Bool, true, false, cond, List, [], ◌∷◌, ◌++◌, length, map, refl, sym, ap, ◌∙◌, subst, arith, length-append}
-use Rattle.std.specs.Prelude.{nat_lt, if◌then◌else◌}
+use Rattle.std.proofs.Common.{◌≡◌, ℕ, suc, ◌+◌, ◌≤◌, Bool, List, [], ◌∷◌, ◌++◌, length, map, refl, ap, arith, length-append}
+use Rattle.std.specs.Prelude.{nat_lt}
 use Rattle.c_types.specs.declared.kind.Measure.{Measure}
 use Rattle.c_types.specs.declared.kind.TheConstants.{MAX_SIZE}
-use Rattle.c_types.specs.declared.tree.Object.{Object}
 use Rattle.c_types.specs.InOrder.{least_multiple, offsets_from, end_from}
 use Rattle.c_types.specs.Placing.{measure_of, measures_of, data_size}
 use Rattle.c_typing.specs.Places.{Node}
 use Rattle.c_typing.specs.Names.{Places, Name, objects_of}
-use Rattle.c_typing.specs.Judgements.{Fault, Judgement}
+use Rattle.c_typing.specs.Judgements.{Judgement}
 use Rattle.c_typing.specs.Rules.{size_fault}
 use Rattle.c_typing.specs.Typing.{data_of, data_nodes, data_faults, end_faults, object_of, literals_of, literal_object}
 

@@ -1,5 +1,5 @@
 -- What the declarators of a unit mean, where they keep the rules.
-use Rattle.std.proofs.Common.{◌≡◌, ◌⊎◌, inl, inr, ℕ, zero, suc, ◌+◌, ◌<◌, ◌≤◌, Bool, true, false, ◌||◌, ◌&&◌, not, cond, List, [], ◌∷◌, ◌++◌, length, map, Option, Some, None, refl, sym, ap, ◌∙◌, subst, arith, true≢false, unwrap_or}
+use Rattle.std.proofs.Common.{◌≡◌, ◌⊎◌, inl, inr, ℕ, suc, ◌<◌, Bool, true, false, ◌||◌, List, [], ◌∷◌, length, map, Option, Some, None, refl, sym, ap, ◌∙◌, subst, arith, true≢false}
 use Rattle.std.specs.Prelude.{slice_get, if◌then◌else◌}
 use Rattle.c_lexer.specs.declared.token.Token.{Token}
 use Rattle.c_syntax.specs.declared.kind.SynKind.{SynKind}
@@ -8,13 +8,12 @@ use Rattle.c_syntax.specs.Trees.{Tree}
 use Rattle.c_grammar.specs.Derivation.{IsTreeOf}
 use Rattle.c_typing.specs.Types.{CType, types_of}
 use Rattle.c_typing.specs.Places.{Node, nodes, kid, other_kids, parent_of, specs_of, is_declarator, is_whole, has_kid}
-use Rattle.c_typing.specs.Names.{Places, places, name_of}
-use Rattle.c_typing.specs.Judgements.{Step, to_pointer, of_array, of_unsized, of_function, PlacedStep, Meaning, steps, declares, a_type, expresses, performs, initialized, initial, a_struct, labels, defines, Typing, Fault, Judgement, means, verdict, besides, given, judgement_at, typing_at, type_at, steps_at, steps_of, type_of, layouts, all_of, before}
-use Rattle.c_typing.specs.Expressions.{expression}
+use Rattle.c_typing.specs.Names.{places, name_of}
+use Rattle.c_typing.specs.Judgements.{Step, to_pointer, of_array, of_unsized, of_function, PlacedStep, Meaning, steps, declares, a_type, initialized, Typing, Fault, Judgement, means, verdict, judgement_at, typing_at, type_at, steps_at, steps_of, type_of, layouts, all_of, before}
 use Rattle.c_typing.specs.Rules.{absent_length}
 use Rattle.c_typing.specs.Declarators.{Built, built, build, adjusted, whole_by, whole_type, declarator, with_step, pointer_declarator, absent_length_step, length_faults, length_step, array_declarator, function_declarator, is_parameter_length, is_given_by_initializer, word_in}
 use Rattle.c_typing.specs.Typing.{in_parentheses, judged_by, judgements_at}
-use Rattle.c_typing.proofs.MadeJudged.{Yields, yields_verdict, yields_besides, yields_given, IsFront, Known, all_known}
+use Rattle.c_typing.proofs.MadeJudged.{Yields, yields_besides, yields_given, IsFront, Known, all_known}
 use Rattle.c_typing.proofs.MadeNodes.{In, in_at}
 use Rattle.c_typing.proofs.MadeForms.{is_active, is_plain_kind, yields_if, yields_if_so, plain_row, braces_row, struct_row}
 use Rattle.c_typing.proofs.MadeParts.{least_kids}

@@ -1,7 +1,6 @@
 -- The functions of a unit, each with its node.
-use Rattle.std.proofs.Common.{◌≡◌, ◌⊎◌, inl, inr, ℕ, zero, suc, ◌+◌, ◌<◌, ◌≤◌, Bool, true, false, ◌||◌, ◌&&◌, List, [], ◌∷◌, ◌++◌, length, map, Option, Some, None, refl, sym, ap, ◌∙◌, subst, arith, true≢false, unwrap_or}
-use Rattle.std.specs.Prelude.{slice_get, filter_map, nat_lt, if◌then◌else◌, option_map, find, ◌==◌}
-use Rattle.std.specs.Option.{is_some}
+use Rattle.std.proofs.Common.{◌≡◌, ℕ, suc, ◌≤◌, Bool, true, false, ◌||◌, ◌&&◌, List, [], ◌∷◌, ◌++◌, length, map, Option, Some, None, refl, sym, ap, ◌∙◌, subst, arith, true≢false, unwrap_or}
+use Rattle.std.specs.Prelude.{slice_get, filter_map, nat_lt, if◌then◌else◌, option_map, ◌==◌}
 use Rattle.std.specs.List.{AllByRecursion}
 use Rattle.c_lexer.specs.declared.token.Token.{Token}
 use Rattle.c_syntax.specs.declared.kind.SynKind.{SynKind}
@@ -13,12 +12,12 @@ use Rattle.c_types.specs.declared.tree.Func.{Func}
 use Rattle.c_typing.specs.Types.{CType}
 use Rattle.c_typing.specs.Places.{Node, nodes, node_at, kid, other_kids, own_takes, next_to_name, is_takes, is_step}
 use Rattle.c_typing.specs.Names.{Places, places, function_text, parameters_of}
-use Rattle.c_typing.specs.Judgements.{Fault, Meaning, expresses, performs, initialized, initial, a_struct, labels, defines, Judgement, means, breaks_rules, waits, besides, given, judgement_at, type_at, code_at, faults_in, faults_of}
-use Rattle.c_typing.specs.Rules.{many_parameters, bad_parameter}
+use Rattle.c_typing.specs.Judgements.{Fault, Meaning, defines, Judgement, means, breaks_rules, waits, besides, judgement_at, type_at, code_at, faults_in, faults_of}
+use Rattle.c_typing.specs.Rules.{many_parameters}
 use Rattle.c_typing.specs.Declarators.{function_declarator}
 use Rattle.c_typing.specs.Statements.{as_one}
 use Rattle.c_typing.specs.Typing.{locals_of, function_node, judged_by, judgements_at, defined_in, place_faults, data_faults, faults}
-use Rattle.c_typing.proofs.MadeJudged.{Yields, yields_given, IsFront, Known, all_known, Stands, stands, no_fault_of}
+use Rattle.c_typing.proofs.MadeJudged.{Yields, yields_given, IsFront, all_known, stands, no_fault_of}
 use Rattle.c_typing.proofs.MadeNodes.{In}
 use Rattle.c_typing.proofs.MadePlaced.{found}
 use Rattle.c_typing.proofs.MadeAround.{find_is}

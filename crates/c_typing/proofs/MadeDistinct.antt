@@ -1,38 +1,25 @@
 -- The functions of a unit stand in the scope of the unit, and have different names.
-use Rattle.std.proofs.Common.{◌≡◌, ◌⊎◌, inl, inr, ℕ, zero, suc, ◌+◌, ◌<◌, ◌≤◌, Bool, true, false, ◌||◌, ◌&&◌, not, cond, List, [], ◌∷◌, ◌++◌, length, map, Option, Some, None, refl, sym, ap, ◌∙◌, subst, arith, true≢false, unwrap_or}
-use Rattle.std.specs.Prelude.{slice_get, if◌then◌else◌, find, filter, filter_map, nat_le, nat_lt, ◌==◌}
-use Rattle.std.specs.Option.{is_some}
-use Rattle.std.specs.List.{AllByRecursion, IsDistinct, list_any, last_or}
-use Rattle.std.specs.Str.{bytes_eq}
+use Rattle.std.proofs.Common.{◌≡◌, ◌⊎◌, inl, inr, ℕ, ◌<◌, ◌≤◌, Bool, true, false, ◌||◌, ◌&&◌, List, [], ◌∷◌, Some, refl, sym, ap, ◌∙◌, subst, arith, true≢false, unwrap_or}
+use Rattle.std.specs.Prelude.{slice_get, nat_le}
 use Rattle.c_lexer.specs.declared.token.Token.{Token}
 use Rattle.c_syntax.specs.declared.kind.SynKind.{SynKind}
 use Rattle.c_syntax.specs.declared.kind.SynKind.TheVariants as kind
-use Rattle.c_syntax.specs.Trees.{Tree, one}
+use Rattle.c_syntax.specs.Trees.{Tree}
 use Rattle.c_syntax.specs.Tables.{size}
 use Rattle.c_grammar.specs.Derivation.{IsTreeOf}
-use Rattle.c_types.specs.declared.tree.Func.{Func}
-use Rattle.c_typing.specs.Types.{CType}
-use Rattle.c_typing.specs.Places.{Node, nodes, node_at, kid, has_kid, is_declarator, Scope, in_scope, scope_by, scopes_from, scopes_of, scope_at, no_scope}
-use Rattle.c_typing.specs.Names.{Places, places, Name, is_again, earlier, is_initialized}
-use Rattle.c_typing.specs.Judgements.{Fault, defines, means, judgement_at}
-use Rattle.c_typing.specs.Rules.{may_be_again, is_refused, agree_with, declared_twice, broken_if}
-use Rattle.c_typing.specs.Shapes as category
+use Rattle.c_typing.specs.Places.{Node, nodes, kid, is_declarator, Scope, in_scope, scope_by, scopes_from, scopes_of, no_scope}
 use Rattle.c_typing.specs.Shapes.{Category, category_by, categories}
 use Rattle.c_typing.specs.ShapesOfNodes.{category_at}
-use Rattle.c_typing.specs.Typing.{judgements_at, defined_in}
 use Rattle.c_typing.proofs.ShapesLaw.{root_is_unit}
 use Rattle.c_typing.proofs.ShapesNodes.{node_placed}
 use Rattle.c_typing.proofs.MadeNodes.{In, in_at, in_front, in_back, nested, crossed, node_bounds, node_below, kid_within, root_node, root_among, root_label, root_first, root_last}
 use Rattle.c_typing.proofs.MadeParts.{least_kids}
-use Rattle.c_typing.proofs.MadePlaced.{numbered, found, node_there, kid_in, kid_has}
-use Rattle.c_typing.proofs.MadeAround.{both_true, and_true, low_so, so_low, equal_so, find_is, one_any}
+use Rattle.c_typing.proofs.MadePlaced.{numbered, found, kid_in}
+use Rattle.c_typing.proofs.MadeAround.{and_true, so_low, find_is}
 use Rattle.c_typing.proofs.MadeTop.{category_is, around_function, unit_kind, is_unit_category}
 use Rattle.c_typing.proofs.MadeWhole.{begins_named, named_so}
 use Rattle.c_typing.proofs.MadeScopes.{is_body, ScopeAt, of_unit, of_body, of_parameters, scope_holds, unit_last}
-use Rattle.c_typing.proofs.MadeFunctions.{Pairs, functions_pairs}
-use Rattle.c_typing.proofs.MadeDefined.{Defined, defined_at}
-use Rattle.c_typing.proofs.MadeFunctionNames.{FunctionName, Kept, kept_of, find_one, Anything, no_chains}
-use Rattle.c_typing.proofs.MadeTexts.{faultless, text_is}
+use Rattle.c_typing.proofs.MadeFunctionNames.{FunctionName, find_one}
 
 pub body_unnamed : (k : SynKind) (text : List ℕ) (cs : List Category) → is_body k ≡ true → begins_named (category_by k text cs) ≡ false
 unfolding category_by

@@ -1,11 +1,11 @@
 -- What is said of every expression and statement in another one.
-use Rattle.std.proofs.Common.{◌≡◌, ℕ, Bool, List, [], ◌∷◌, ◌++◌, length, Option, Some, None, refl, sym, ap, ◌∙◌, subst}
+use Rattle.std.proofs.Common.{List, [], ◌∷◌}
 use Rattle.std.specs.List.{AllByRecursion}
 use mathlib.Core.Former.{Count}
 use Rattle.c_types.specs.declared.tree.Expr.{Expr}
 use Rattle.c_types.specs.declared.tree.Stmt.{Stmt}
 use Rattle.c_types.specs.declared.tree.Group.{Group}
-use Rattle.c_types.specs.Forms.{ExprRow, no_exprs, an_expr, const, address, local, set_local, load, store, binary, convert, both, either, choose, seq, call, get_char, put_char, copy, StmtRow, no_stmts, a_stmt, GroupRow, no_groups, a_group, block, drop_expr, unset, return_with, if_else, loop, do_loop, break, continue, switch, stmt_row, group_row, length_of}
+use Rattle.c_types.specs.Forms.{ExprRow, no_exprs, an_expr, const, address, local, set_local, load, store, binary, convert, both, either, choose, seq, call, get_char, put_char, copy, StmtRow, no_stmts, a_stmt, GroupRow, no_groups, a_group, block, drop_expr, unset, return_with, if_else, loop, do_loop, break, continue, switch, stmt_row, group_row}
 use Rattle.c_types.specs.Every.{EveryExpr, EveryExprIn, EveryStmt, EveryStmtIn, EveryStmtOf}
 use Rattle.c_typing.proofs.MadeGroups.{BodiesGood}
 

@@ -1,6 +1,6 @@
 -- What holds of all statements of the functions, where it holds of what names something.
-use Rattle.std.proofs.Common.{◌≡◌, ◌⊎◌, inl, inr, ℕ, zero, suc, ◌+◌, ◌<◌, ◌≤◌, Bool, true, false, ◌||◌, List, [], ◌∷◌, ◌++◌, length, map, Option, Some, None, refl, sym, ap, ◌∙◌, subst, arith, true≢false}
-use Rattle.std.specs.Prelude.{slice_get, filter_map}
+use Rattle.std.proofs.Common.{◌≡◌, ℕ, ◌<◌, true, false, List, [], ◌∷◌, ◌++◌, length, map, Option, Some, None, refl, sym, ap, ◌∙◌, subst, arith, true≢false}
+use Rattle.std.specs.Prelude.{slice_get}
 use Rattle.std.specs.List.{AllByRecursion}
 use Rattle.c_lexer.specs.declared.token.Token.{Token}
 use Rattle.c_syntax.specs.declared.kind.SynKind.{SynKind}
@@ -9,18 +9,17 @@ use Rattle.c_syntax.specs.Trees.{Tree}
 use Rattle.c_grammar.specs.Derivation.{IsTreeOf}
 use Rattle.c_types.specs.declared.tree.Expr.{Expr}
 use Rattle.c_types.specs.declared.tree.Stmt.{Stmt}
-use Rattle.c_types.specs.declared.tree.Group.{Group}
 use Rattle.c_types.specs.declared.tree.Func.{Func}
-use Rattle.c_types.specs.Forms.{set_local, drop_expr, unset, block, return_with, if_else, loop, do_loop, break, continue, switch, length_of, stmt_row, group_row}
-use Rattle.c_types.specs.Every.{EveryExpr, EveryStmt, own_exprs, listed}
+use Rattle.c_types.specs.Forms.{drop_expr, return_with, if_else, loop, do_loop, break, continue, switch, length_of, group_row}
+use Rattle.c_types.specs.Every.{EveryExpr, EveryStmt, listed}
 use Rattle.c_typing.specs.Types.{CType}
-use Rattle.c_typing.specs.Places.{Node, nodes, node_at, kid, kind_at, other_kids, is_loop}
-use Rattle.c_typing.specs.Names.{Places, places, Name, is_declaration, local_number}
-use Rattle.c_typing.specs.Judgements.{Callee, Meaning, expresses, performs, labels, defines, Judgement, means, given, judgement_at, typing_at, type_at, code_at, all_of, Typing}
+use Rattle.c_typing.specs.Places.{Node, nodes, kid, kind_at, other_kids, is_loop}
+use Rattle.c_typing.specs.Names.{places, is_declaration, local_number}
+use Rattle.c_typing.specs.Judgements.{Callee, Meaning, expresses, performs, defines, Judgement, means, judgement_at, typing_at, code_at, all_of, Typing}
 use Rattle.c_typing.specs.Conversions.{value_of}
 use Rattle.c_typing.specs.Statements.{does, as_one, block_of, Item, item_at, groups_of, switch_statement}
-use Rattle.c_typing.specs.Typing.{function_node, judged_by, judgements_at, defined_in}
-use Rattle.c_typing.proofs.MadeJudged.{Yields, yields_verdict, yields_besides, yields_given, IsFront, Known, meant_later}
+use Rattle.c_typing.specs.Typing.{function_node, judgements_at}
+use Rattle.c_typing.proofs.MadeJudged.{Yields, yields_besides, yields_given, IsFront, Known, meant_later}
 use Rattle.c_typing.proofs.MadeNodes.{In}
 use Rattle.c_typing.proofs.MadeForms.{case_row, default_row}
 use Rattle.c_typing.proofs.MadeParts.{least_kids, typing_meant, in_others, code_meant, all_parts}
@@ -28,8 +27,8 @@ use Rattle.c_typing.proofs.MadePlaced.{kid_in, node_there}
 use Rattle.c_typing.proofs.MadeGroups.{ItemGood, Meant, label, statement, item_meant, BodiesGood, bodies_good}
 use Rattle.c_typing.proofs.MadeEvery.{every_row, every_groups}
 use Rattle.c_typing.proofs.MadeForming.{value_every, converted_every, set_every}
-use Rattle.c_typing.proofs.MadeStatements.{is_code_kind, Good, Closes, all_good}
-use Rattle.c_typing.proofs.MadeCode.{is_quiet, X, V, Each, S, D, NoLabel, Holds, Leaves, code_row}
+use Rattle.c_typing.proofs.MadeStatements.{is_code_kind, Closes, all_good}
+use Rattle.c_typing.proofs.MadeCode.{X, V, Each, S, D, NoLabel, Holds, Leaves, code_row}
 
 loop_code : (k : SynKind) → is_loop k ≡ true → is_code_kind k ≡ true
 loop_code kind.While e = refl

@@ -1,16 +1,15 @@
 -- What holds of every part of the code of an expression, by the forms that it is made of.
-use Rattle.std.proofs.Common.{◌≡◌, ◌<◌, arith, ℕ, zero, suc, ◌+◌, Bool, true, false, cond, List, [], ◌∷◌, ◌++◌, length, map, Option, Some, None, refl, sym, ap, ◌∙◌, subst, true≢false}
+use Rattle.std.proofs.Common.{◌≡◌, ◌<◌, arith, ℕ, ◌+◌, Bool, true, false, List, Option, Some, None, refl}
 use Rattle.std.specs.Prelude.{if◌then◌else◌}
-use Rattle.std.specs.List.{AllByRecursion}
 use Rattle.cp_base.specs.declared.op.To.{To}
 use Rattle.c_types.specs.declared.tree.COp.{COp}
 use Rattle.c_types.specs.declared.tree.COp.TheVariants as op
 use Rattle.c_types.specs.declared.tree.Expr.{Expr}
-use Rattle.c_types.specs.Forms.{const, address, local, set_local, load, store, binary, convert, both, either, choose, seq, call, get_char, put_char, copy, expr_row, length_of}
-use Rattle.c_types.specs.Every.{EveryExpr, EveryExprIn}
-use Rattle.c_typing.specs.Types.{CType, void, integer, pointer, array, unsized, struct, function, IntegerType, int, same, traits_of, common, promoted, integer_of, Layout, size_of}
+use Rattle.c_types.specs.Forms.{const, local, set_local, load, store, binary, convert, both, either, choose, seq, get_char, put_char}
+use Rattle.c_types.specs.Every.{EveryExpr}
+use Rattle.c_typing.specs.Types.{CType, void, integer, pointer, array, unsized, struct, function, int, same, traits_of, common, promoted, integer_of, Layout, size_of}
 use Rattle.c_typing.specs.Judgements.{Form, value, in_local, in_memory, temporary, callee, Typing}
-use Rattle.c_typing.specs.Conversions.{valued, access_of, read_by, value_by, value_of, narrowed, converted_code, converted_to, Class, multiplicative, additive, subtractive, shift, relational, equality, bitwise, and_then, or_else, Operator, scaled, signs, plain_code, sum_code, difference_code, operator_code}
+use Rattle.c_typing.specs.Conversions.{access_of, read_by, value_by, value_of, narrowed, converted_code, Class, additive, subtractive, shift, and_then, or_else, Operator, scaled, signs, plain_code, sum_code, difference_code, operator_code}
 use Rattle.c_typing.specs.Expressions.{hidden_for, written, written_before, stepped, binary_code, compound_new}
 
 -- forms that name nothing

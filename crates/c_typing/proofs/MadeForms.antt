@@ -1,13 +1,13 @@
 -- The forms of meanings by kinds of nodes: what is neither an expression nor acts.
-use Rattle.std.proofs.Common.{◌≡◌, ℕ, zero, suc, Bool, true, false, ◌||◌, List, [], ◌∷◌, ◌++◌, Option, Some, None, refl, sym, true≢false}
+use Rattle.std.proofs.Common.{◌≡◌, ℕ, zero, suc, Bool, true, false, ◌||◌, List, [], ◌∷◌, Option, Some, None, refl, sym, true≢false}
 use Rattle.std.specs.Prelude.{if◌then◌else◌, flat_map}
 use Rattle.c_syntax.specs.declared.kind.SynKind.{SynKind}
 use Rattle.c_syntax.specs.declared.kind.SynKind.TheVariants as kind
 use Rattle.c_types.specs.declared.tree.Cell.{Cell}
 use Rattle.c_typing.specs.Types.{CType, Field}
-use Rattle.c_typing.specs.Places.{Node, is_whole, parent_of, specs_of, kid}
-use Rattle.c_typing.specs.Names.{Places, Name}
-use Rattle.c_typing.specs.Judgements.{Meaning, itself, a_type, a_struct, members, enumerates, steps, declares, expresses, fills_array, initial, initialized, performs, labels, defines, Judgement, means, verdict, given, Fault, PlacedStep, Typing, typing_at, steps_at, layouts}
+use Rattle.c_typing.specs.Places.{Node, kid}
+use Rattle.c_typing.specs.Names.{Places}
+use Rattle.c_typing.specs.Judgements.{Meaning, a_type, a_struct, steps, expresses, initial, initialized, performs, labels, defines, Judgement, Fault, PlacedStep, Typing, layouts}
 use Rattle.c_typing.specs.Expressions.{expression}
 use Rattle.c_typing.specs.Declarators.{enum_specifier, spec_word, typedef_type, specs, struct_specifier, struct_body, layout, enumerator_node, enumerator_after, enumerator_value, Built, built, whole_type, declarator, pointer_declarator, absent_length_step, length_step, length_faults, array_declarator, function_declarator, member, parameter_node, type_name}
 use Rattle.c_typing.specs.Initializers.{braces, braces_for}

@@ -1,5 +1,5 @@
 -- The name of each function that is defined, and what the rules ask of it.
-use Rattle.std.proofs.Common.{◌≡◌, ◌⊎◌, inl, inr, ℕ, zero, suc, ◌+◌, ◌<◌, ◌≤◌, Bool, true, false, ◌||◌, ◌&&◌, not, cond, List, [], ◌∷◌, ◌++◌, length, map, Option, Some, None, refl, sym, ap, ◌∙◌, subst, arith, true≢false, unwrap_or}
+use Rattle.std.proofs.Common.{◌≡◌, inl, inr, ℕ, zero, suc, ◌<◌, ◌≤◌, Bool, true, false, cond, List, [], ◌∷◌, length, map, Option, Some, None, refl, sym, ap, ◌∙◌, subst, arith, true≢false, unwrap_or}
 use Rattle.std.specs.Prelude.{slice_get, get_or, if◌then◌else◌, find, ◌==◌}
 use Rattle.std.specs.Option.{is_some}
 use Rattle.c_lexer.specs.declared.token.Token.{Token}
@@ -10,10 +10,10 @@ use Rattle.c_syntax.specs.Tables.{table_of}
 use Rattle.c_grammar.specs.Derivation.{IsTreeOf}
 use Rattle.c_types.specs.declared.tree.Func.{Func}
 use Rattle.c_typing.specs.Types.{CType}
-use Rattle.c_typing.specs.Places.{Node, nodes, node_at, kid, text_at, parent_of, specs_of, own_takes, whole_declarator, Scope, scopes_of, scope_at}
+use Rattle.c_typing.specs.Places.{Node, nodes, node_at, kid, parent_of, specs_of, own_takes, whole_declarator, Scope, scopes_of, scope_at}
 use Rattle.c_typing.specs.Places.{is_declarator as declares}
-use Rattle.c_typing.specs.Names.{Entity, function_name, Places, places, Name, declares_function, entity_by, name_list, names_by, names_from, name_of, function_text}
-use Rattle.c_typing.specs.Judgements.{Fault, PlacedStep, Judgement, means, judgement_at, type_of, type_at}
+use Rattle.c_typing.specs.Names.{Entity, function_name, Places, places, Name, declares_function, entity_by, name_list, names_by, name_of}
+use Rattle.c_typing.specs.Judgements.{PlacedStep, Judgement, means, judgement_at, type_of, type_at}
 use Rattle.c_typing.specs.Rules.{not_a_function}
 use Rattle.c_typing.specs.Declarators.{declared_faults, whole_by}
 use Rattle.c_typing.specs.Shapes as category
@@ -22,10 +22,10 @@ use Rattle.c_typing.specs.ShapesOfNodes.{as_id, category_at}
 use Rattle.c_typing.specs.Typing.{judgements_at}
 use Rattle.c_typing.proofs.ShapesNodes.{node_placed}
 use Rattle.c_typing.proofs.MadeJudged.{IsFront, meant_later}
-use Rattle.c_typing.proofs.MadeNodes.{In, in_at}
+use Rattle.c_typing.proofs.MadeNodes.{In}
 use Rattle.c_typing.proofs.MadeParts.{least_kids}
 use Rattle.c_typing.proofs.MadePlaced.{Found, numbered, node_there, kid_found, kid_in}
-use Rattle.c_typing.proofs.MadeAround.{find_is, equal_so, any_one}
+use Rattle.c_typing.proofs.MadeAround.{find_is, equal_so}
 use Rattle.c_typing.proofs.MadeWhole.{Stem, stem_kind, stem_name, whole_of_function}
 use Rattle.c_typing.proofs.MadeNames.{Names, all_names, names_have}
 use Rattle.c_typing.proofs.MadeDeclarators.{Whole, Chains, typed_at}

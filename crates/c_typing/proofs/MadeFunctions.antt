@@ -1,9 +1,9 @@
 -- What holds of each function of a unit, from what its node means.
-use Rattle.std.proofs.Common.{◌≡◌, ℕ, zero, suc, ◌<◌, arith, Bool, true, false, List, [], ◌∷◌, length, Option, Some, None, refl, sym, ap, ◌∙◌, subst}
-use Rattle.std.specs.Prelude.{slice_get, filter_map}
+use Rattle.std.proofs.Common.{◌≡◌, ℕ, suc, ◌<◌, arith, List, [], ◌∷◌, refl}
+use Rattle.std.specs.Prelude.{filter_map}
 use Rattle.std.specs.List.{AllByRecursion}
 use Rattle.c_types.specs.declared.tree.Func.{Func}
-use Rattle.c_typing.specs.Judgements.{Meaning, defines, Judgement, means, breaks_rules, waits, judgement_at}
+use Rattle.c_typing.specs.Judgements.{defines, Judgement, means, judgement_at}
 use Rattle.c_typing.specs.Typing.{defined_in}
 
 -- it holds of each and each later one

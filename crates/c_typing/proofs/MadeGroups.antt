@@ -1,13 +1,13 @@
 -- The groups of a `switch`: their bodies are its statements, and their labels are its labels, in order.
-use Rattle.std.proofs.Common.{◌≡◌, ℕ, zero, suc, ◌+◌, ◌<◌, ◌≤◌, Bool, true, false, List, [], ◌∷◌, ◌++◌, length, map, Option, Some, None, refl, sym, ap, ◌∙◌, subst, arith}
-use Rattle.std.specs.Prelude.{slice_get, if◌then◌else◌}
+use Rattle.std.proofs.Common.{◌≡◌, ℕ, suc, ◌≤◌, Bool, true, false, List, [], ◌∷◌, Option, Some, None, refl, sym, ap, ◌∙◌, subst, arith}
+use Rattle.std.specs.Prelude.{if◌then◌else◌}
 use Rattle.std.specs.List.{AllByRecursion}
 use Rattle.c_types.specs.declared.tree.Stmt.{Stmt}
 use Rattle.c_types.specs.declared.tree.Group.{Group}
 use Rattle.c_types.specs.WellMade.{labels_of, others}
-use Rattle.c_types.specs.Forms.{groups, group_row, stmts, stmt_row, length_of}
-use Rattle.c_typing.specs.Judgements.{Meaning, itself, a_type, a_struct, members, enumerates, steps, declares, expresses, fills_array, initial, initialized, performs, labels, defines, Judgement, means, breaks_rules, waits, judgement_at}
-use Rattle.c_typing.specs.Statements.{as_one, Item, a_label, a_statement, item_at, Grouped, label_group, with_label, labelled, with_item, groups_of}
+use Rattle.c_types.specs.Forms.{groups, group_row, stmts, stmt_row}
+use Rattle.c_typing.specs.Judgements.{performs, labels, Judgement, means, judgement_at}
+use Rattle.c_typing.specs.Statements.{as_one, Item, a_label, a_statement, item_at, labelled, groups_of}
 
 -- ---- items
 

@@ -1,8 +1,8 @@
 -- Hidden locals are among the locals of their function.
-use Rattle.std.proofs.Common.{◌≡◌, ℕ, zero, suc, ◌+◌, ◌<◌, ◌≤◌, List, [], ◌∷◌, ◌++◌, length, map, drop, refl, sym, ap, ap₂, ◌∙◌, subst, arith}
+use Rattle.std.proofs.Common.{◌≡◌, ℕ, zero, suc, ◌+◌, ◌<◌, ◌≤◌, List, [], ◌∷◌, ◌++◌, length, map, drop, refl, sym, ap, ap₂, ◌∙◌, arith}
 use Rattle.std.specs.Prelude.{sum}
 use Rattle.std.specs.List.{fold}
-use Rattle.c_typing.specs.Judgements.{Meaning, Typing, expresses, Judgement, means, judgement_at, hidden_in}
+use Rattle.c_typing.specs.Judgements.{Typing, expresses, Judgement, means, judgement_at, hidden_in}
 use Rattle.c_typing.specs.Names.{Places}
 use Rattle.c_typing.specs.Typing.{judgements_at}
 use Rattle.c_typing.proofs.MadeJudged.{IsFront}

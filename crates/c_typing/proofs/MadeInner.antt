@@ -1,19 +1,16 @@
 -- Which node a scope belongs to, and that the scope of a place is the first that holds it.
-use Rattle.std.proofs.Common.{◌≡◌, ◌⊎◌, inl, inr, ℕ, zero, suc, ◌+◌, ◌<◌, ◌≤◌, Bool, true, false, ◌||◌, ◌&&◌, not, cond, List, [], ◌∷◌, ◌++◌, length, map, Option, Some, None, refl, sym, ap, ◌∙◌, subst, arith, true≢false, unwrap_or}
-use Rattle.std.specs.Prelude.{slice_get, if◌then◌else◌, find, nat_le, ◌==◌}
-use Rattle.std.specs.Option.{is_some}
+use Rattle.std.proofs.Common.{◌≡◌, ◌⊎◌, inl, inr, ℕ, zero, suc, ◌+◌, ◌<◌, ◌≤◌, Bool, true, false, ◌||◌, ◌&&◌, cond, List, [], ◌∷◌, ◌++◌, Option, Some, None, refl, sym, ap, ◌∙◌, subst, arith, true≢false, unwrap_or}
+use Rattle.std.specs.Prelude.{slice_get, if◌then◌else◌, find, nat_le}
 use Rattle.c_lexer.specs.declared.token.Token.{Token}
 use Rattle.c_syntax.specs.declared.kind.SynKind.{SynKind}
 use Rattle.c_syntax.specs.declared.kind.SynKind.TheVariants as kind
-use Rattle.c_syntax.specs.Trees.{Tree, one}
-use Rattle.c_syntax.specs.Tables.{size}
+use Rattle.c_syntax.specs.Trees.{Tree}
 use Rattle.c_grammar.specs.Derivation.{IsTreeOf}
-use Rattle.c_typing.specs.Places.{Node, nodes, node_at, kid, parent_of, is_function, own_takes, Scope, in_scope, plain_scope, block_scope, takes_before, belongs_to_block, scope_by, scopes_from, scopes_of, scope_at, no_scope}
-use Rattle.c_typing.proofs.MadeNodes.{In, in_at, in_either, in_front, in_back}
+use Rattle.c_typing.specs.Places.{Node, nodes, kid, parent_of, is_function, own_takes, Scope, in_scope, plain_scope, block_scope, takes_before, belongs_to_block, scope_by, scopes_from, scopes_of, scope_at, no_scope}
+use Rattle.c_typing.proofs.MadeNodes.{In, in_at}
 use Rattle.c_typing.proofs.MadePlaced.{found, numbered}
 use Rattle.c_typing.proofs.MadeAround.{both_true, low_so, find_is}
-use Rattle.c_typing.proofs.MadeScopes.{is_body, plain_so, scopes_in, switch_from}
-use Rattle.c_typing.proofs.MadeDefined.{TakesAt, own_takes_at}
+use Rattle.c_typing.proofs.MadeScopes.{is_body, plain_so, switch_from}
 
 -- the places in a scope
 abbrev pub Within : Node → ℕ → Type 0

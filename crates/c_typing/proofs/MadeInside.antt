@@ -1,19 +1,17 @@
 -- What stands in the body of a function, and which of its locals that names.
-use Rattle.std.proofs.Common.{◌≡◌, ◌⊎◌, inl, inr, ℕ, zero, suc, ◌+◌, ◌<◌, ◌≤◌, Bool, true, false, ◌||◌, ◌&&◌, not, cond, List, [], ◌∷◌, ◌++◌, length, map, Option, Some, None, refl, sym, ap, ◌∙◌, subst, arith, true≢false, unwrap_or, drop, take}
-use Rattle.std.specs.Prelude.{slice_get, if◌then◌else◌, find, filter, position, nat_le, ◌==◌, sum, codes}
-use Rattle.std.specs.Option.{is_some}
+use Rattle.std.proofs.Common.{◌≡◌, ◌⊎◌, inl, inr, ℕ, ◌+◌, ◌<◌, ◌≤◌, Bool, true, ◌&&◌, List, length, Option, Some, refl, sym, ap, ◌∙◌, subst, arith, true≢false, unwrap_or}
+use Rattle.std.specs.Prelude.{slice_get, position, nat_le, ◌==◌}
 use Rattle.c_lexer.specs.declared.token.Token.{Token}
 use Rattle.c_syntax.specs.declared.kind.SynKind.{SynKind}
 use Rattle.c_syntax.specs.declared.kind.SynKind.TheVariants as kind
-use Rattle.c_syntax.specs.Trees.{Tree, one}
-use Rattle.c_syntax.specs.Tables.{size}
+use Rattle.c_syntax.specs.Trees.{Tree}
 use Rattle.c_grammar.specs.Derivation.{IsTreeOf}
-use Rattle.c_typing.specs.Places.{Node, nodes, node_at, kid, kind_at, parent_of, holds, is_function, is_takes, is_unit, is_file_scope, nowhere, own_takes, says, specs_of, Scope, in_scope, scopes_of, scope_at}
-use Rattle.c_typing.specs.Names.{Entity, automatic, parameter, static_object, typedef_name, function_name, Places, places, Name, names_at, denoted, is_automatic, automatics_in, named_locals, parameters_of, local_number, function_around, declared_entity, entity_by}
-use Rattle.c_typing.proofs.MadeNodes.{In, in_at, nested, crossed, node_bounds, kid_within}
+use Rattle.c_typing.specs.Places.{Node, nodes, kid, holds, is_function, is_takes, nowhere}
+use Rattle.c_typing.specs.Names.{automatic, places, Name, is_automatic, automatics_in, named_locals, parameters_of, local_number, function_around}
+use Rattle.c_typing.proofs.MadeNodes.{In, in_at, nested, crossed, kid_within}
 use Rattle.c_typing.proofs.MadeParts.{least_kids}
-use Rattle.c_typing.proofs.MadePlaced.{numbered, found, node_there, kid_found, kid_in}
-use Rattle.c_typing.proofs.MadeAround.{both_true, and_true, equal_so, low_so, so_low, find_is}
+use Rattle.c_typing.proofs.MadePlaced.{numbered, found, kid_in}
+use Rattle.c_typing.proofs.MadeAround.{both_true, and_true, low_so, so_low, find_is}
 use Rattle.c_typing.proofs.MadeTop.{around_function}
 use Rattle.c_typing.proofs.MadeScopes.{is_body}
 use Rattle.c_typing.proofs.MadeDistinct.{same_id, three_ways}
@@ -22,7 +20,6 @@ use Rattle.c_typing.proofs.MadeOnce.{filter_in}
 use Rattle.c_typing.proofs.MadeMain.{filter_so, function_kind}
 use Rattle.c_typing.proofs.MadeObjects.{position_there}
 use Rattle.c_typing.proofs.MadeStatements.{is_code_kind}
-use Rattle.c_typing.proofs.MadeInner.{Within, Behind}
 
 is_function_kind : SynKind → Bool
 is_function_kind k = is_function k

@@ -1,6 +1,6 @@
 -- Each judgement is made from those before it, and what that gives: an induction over the nodes.
 use Rattle.std.proofs.Common.{◌≡◌, ◌⊎◌, inl, inr, ℕ, zero, suc, ◌+◌, ◌<◌, List, [], ◌∷◌, ◌++◌, length, Option, Some, None, refl, sym, ap, ◌∙◌, subst, arith, append_assoc, append-nil, length-append}
-use Rattle.std.specs.Prelude.{slice_get, flat_map}
+use Rattle.std.specs.Prelude.{slice_get}
 use Rattle.c_typing.specs.Places.{Node}
 use Rattle.c_typing.specs.Names.{Places}
 use Rattle.c_typing.specs.Judgements.{Fault, Meaning, Judgement, means, breaks_rules, waits, verdict, besides, given, judgement_at, faults_in, faults_of}

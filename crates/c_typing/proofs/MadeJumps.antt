@@ -1,5 +1,5 @@
 -- Each `break` and `continue` is ended by a statement around it.
-use Rattle.std.proofs.Common.{◌≡◌, ◌⊎◌, inl, inr, ℕ, zero, suc, ◌+◌, ◌<◌, Bool, true, false, ◌||◌, List, [], ◌∷◌, length, map, Option, Some, None, refl, sym, ap, ◌∙◌, subst, arith, true≢false}
+use Rattle.std.proofs.Common.{◌≡◌, ◌⊎◌, inl, inr, ℕ, ◌<◌, Bool, true, false, List, [], ◌∷◌, length, map, Option, Some, refl, sym, ap, ◌∙◌, subst, arith, true≢false}
 use Rattle.std.specs.Prelude.{slice_get, filter_map}
 use Rattle.std.specs.List.{AllByRecursion}
 use mathlib.Core.Former.{Count}
@@ -14,14 +14,13 @@ use Rattle.c_types.specs.declared.tree.Group.{Group}
 use Rattle.c_types.specs.declared.tree.Func.{Func}
 use Rattle.c_types.specs.Forms.{StmtRow, no_stmts, a_stmt, GroupRow, no_groups, a_group, block, drop_expr, unset, return_with, if_else, loop, do_loop, break, continue, switch, length_of, stmt_row, group_row}
 use Rattle.c_types.specs.WellMade.{JumpsEnd, JumpsEndIn, JumpsEndOf}
-use Rattle.c_typing.specs.Types.{CType}
-use Rattle.c_typing.specs.Places.{Node, nodes, kid, kind_at, other_kids, is_loop, is_switch}
-use Rattle.c_typing.specs.Names.{Places, places, is_declaration}
-use Rattle.c_typing.specs.Judgements.{Meaning, expresses, initialized, performs, labels, defines, Judgement, means, Typing, given, judgement_at, typing_at, type_at, code_at, all_of}
+use Rattle.c_typing.specs.Places.{Node, nodes, kid, kind_at, other_kids, is_loop}
+use Rattle.c_typing.specs.Names.{places, is_declaration}
+use Rattle.c_typing.specs.Judgements.{Meaning, expresses, initialized, performs, labels, defines, Judgement, Typing, judgement_at, code_at, all_of}
 use Rattle.c_typing.specs.Conversions.{value_of}
-use Rattle.c_typing.specs.Statements.{does, as_one, block_of, Item, a_label, a_statement, item_at, groups_of, switch_statement}
-use Rattle.c_typing.specs.Typing.{function_node, judged_by, judgements_at, defined_in}
-use Rattle.c_typing.proofs.MadeJudged.{Yields, yields_verdict, yields_besides, yields_given, Known}
+use Rattle.c_typing.specs.Statements.{does, as_one, block_of, Item, item_at, groups_of, switch_statement}
+use Rattle.c_typing.specs.Typing.{function_node, judgements_at, defined_in}
+use Rattle.c_typing.proofs.MadeJudged.{Yields, yields_besides, yields_given, Known}
 use Rattle.c_typing.proofs.MadeNodes.{In}
 use Rattle.c_typing.proofs.MadeForms.{is_active, case_row, default_row}
 use Rattle.c_typing.proofs.MadeParts.{least_kids, in_others, code_meant, all_parts}

@@ -1,17 +1,17 @@
 -- The names that declarations declare, and what the rules ask of them.
-use Rattle.std.proofs.Common.{◌≡◌, ◌⊎◌, inl, inr, ℕ, zero, suc, ◌+◌, ◌<◌, ◌≤◌, Bool, true, false, ◌||◌, ◌&&◌, not, cond, List, [], ◌∷◌, ◌++◌, length, map, Option, Some, None, refl, sym, ap, ◌∙◌, subst, arith, true≢false, unwrap_or}
-use Rattle.std.specs.Prelude.{slice_get, if◌then◌else◌, find, filter, ◌==◌}
+use Rattle.std.proofs.Common.{◌≡◌, ◌⊎◌, inl, inr, ℕ, Bool, true, false, not, List, [], ◌∷◌, map, Option, Some, None, refl, sym, ap, ◌∙◌, subst, arith, true≢false, unwrap_or}
+use Rattle.std.specs.Prelude.{slice_get, filter, ◌==◌}
 use Rattle.std.specs.List.{last_or}
 use Rattle.c_lexer.specs.declared.token.Token.{Token}
 use Rattle.c_syntax.specs.declared.kind.SynKind.{SynKind}
 use Rattle.c_syntax.specs.declared.kind.SynKind.TheVariants as kind
-use Rattle.c_syntax.specs.Trees.{Tree, one}
+use Rattle.c_syntax.specs.Trees.{Tree}
 use Rattle.c_syntax.specs.Tables.{table_of}
 use Rattle.c_grammar.specs.Derivation.{IsTreeOf}
 use Rattle.c_typing.specs.Types.{CType}
-use Rattle.c_typing.specs.Places.{Node, nodes, node_at, kid, nowhere, parent_of, is_declarator, in_declarator, is_whole, whole_declarator, specs_of, Scope}
-use Rattle.c_typing.specs.Names.{Entity, typedef_name, function_name, static_object, automatic, parameter, enumerator, Places, places, Name, name_of, entity_by}
-use Rattle.c_typing.specs.Judgements.{Fault, PlacedStep, Judgement, means, declares, judgement_at, type_of}
+use Rattle.c_typing.specs.Places.{Node, nodes, node_at, nowhere, parent_of, is_declarator, in_declarator, is_whole, whole_declarator, specs_of, Scope}
+use Rattle.c_typing.specs.Names.{Entity, typedef_name, function_name, static_object, automatic, Places, places, Name, name_of, entity_by}
+use Rattle.c_typing.specs.Judgements.{PlacedStep, Judgement, means, declares, judgement_at, type_of}
 use Rattle.c_typing.specs.Declarators.{declared_faults, whole_by}
 use Rattle.c_typing.specs.Shapes as category
 use Rattle.c_typing.specs.Shapes.{Category, category_by, at_places, categories_of, kids_fit, begins_with, stands_in}
@@ -21,9 +21,9 @@ use Rattle.c_typing.proofs.ShapesNodes.{node_placed}
 use Rattle.c_typing.proofs.MadeNodes.{In, in_at, in_back, leaf_first}
 use Rattle.c_typing.proofs.MadePlaced.{numbered, found, node_there}
 use Rattle.c_typing.proofs.MadeAround.{both_true, and_true, equal_so}
-use Rattle.c_typing.proofs.MadeTop.{category_is, has_parent}
+use Rattle.c_typing.proofs.MadeTop.{has_parent}
 use Rattle.c_typing.proofs.MadeWhole.{begins_named, named_so}
-use Rattle.c_typing.proofs.MadeNames.{Named, Declares, by_declarator, by_enumerator, Names}
+use Rattle.c_typing.proofs.MadeNames.{Named, Declares, by_declarator, by_enumerator}
 use Rattle.c_typing.proofs.MadeDeclarators.{Whole, Chains, typed_at}
 use Rattle.c_typing.proofs.MadeFunctionNames.{names_here, name_found}
 use Rattle.c_typing.proofs.MadeOnce.{filter_in, last_there}

@@ -1,7 +1,7 @@
 -- The labels of a `switch` differ, and at most one is the default.
-use Rattle.std.proofs.Common.{◌≡◌, ◌⊎◌, inl, inr, ℕ, zero, suc, ◌+◌, ◌<◌, ◌≤◌, Bool, true, false, ◌||◌, ◌&&◌, List, [], ◌∷◌, ◌++◌, length, map, Option, Some, None, refl, sym, ap, ◌∙◌, subst, arith, true≢false, le_trans, drop}
-use Rattle.std.specs.Prelude.{slice_get, filter_map, nat_lt, ◌==◌}
-use Rattle.std.specs.List.{AllByRecursion, IsDistinct, list_any}
+use Rattle.std.proofs.Common.{◌≡◌, inl, inr, ℕ, ◌<◌, ◌≤◌, Bool, true, false, List, [], ◌∷◌, ◌++◌, length, map, Option, Some, None, refl, sym, ap, ◌∙◌, subst, arith, true≢false, le_trans, drop}
+use Rattle.std.specs.Prelude.{slice_get, filter_map, nat_lt}
+use Rattle.std.specs.List.{AllByRecursion, IsDistinct}
 use Rattle.std.specs.Bool.{nat_eq}
 use Rattle.c_lexer.specs.declared.token.Token.{Token}
 use Rattle.c_syntax.specs.declared.kind.SynKind.{SynKind}
@@ -10,24 +10,23 @@ use Rattle.c_syntax.specs.Trees.{Tree}
 use Rattle.c_grammar.specs.Derivation.{IsTreeOf}
 use Rattle.c_types.specs.declared.tree.Expr.{Expr}
 use Rattle.c_types.specs.declared.tree.Stmt.{Stmt}
-use Rattle.c_types.specs.declared.tree.Group.{Group}
 use Rattle.c_types.specs.declared.tree.Func.{Func}
-use Rattle.c_types.specs.Forms.{switch, length_of, group_row, groups, stmt_row}
+use Rattle.c_types.specs.Forms.{switch, length_of, group_row}
 use Rattle.c_types.specs.WellMade.{LabelsDiffer, HasOneOther, labels_of, others}
 use Rattle.c_types.specs.Every.{EveryStmt}
 use Rattle.c_typing.specs.Conversions.{value_of}
 use Rattle.c_typing.specs.Places.{Node, nodes, node_at, kid, kind_at, other_kids, parent_of}
 use Rattle.c_typing.specs.Names.{Places, places, is_declaration}
-use Rattle.c_typing.specs.Judgements.{Constant, number, no_constant, undefined, Meaning, expresses, initialized, performs, labels, defines, Judgement, means, verdict, judgement_at, typing_at, code_at, all_of, Typing}
+use Rattle.c_typing.specs.Judgements.{Constant, number, undefined, Meaning, expresses, initialized, performs, labels, defines, Judgement, means, verdict, judgement_at, typing_at, code_at, all_of, Typing}
 use Rattle.c_typing.specs.Rules.{not_constant, out_of_range, case_twice}
 use Rattle.c_typing.specs.Declarators.{word_in}
-use Rattle.c_typing.specs.Statements.{as_one, block_of, does, Item, a_label, a_statement, item_at, groups_of, switch_statement, same_label, has_before, repeated_case, label_at, case_label, default_label}
+use Rattle.c_typing.specs.Statements.{as_one, does, Item, a_label, a_statement, item_at, groups_of, switch_statement, same_label, has_before, repeated_case, case_label, default_label}
 use Rattle.c_typing.specs.Typing.{function_node, judgements_at, defined_in}
-use Rattle.c_typing.proofs.MadeJudged.{Yields, yields_verdict, yields_besides, yields_given, IsFront, Known, front_at, meant_later}
+use Rattle.c_typing.proofs.MadeJudged.{Yields, yields_besides, yields_given, IsFront, Known, front_at, meant_later}
 use Rattle.c_typing.proofs.MadeNodes.{In, in_at, Ascends, ascending}
-use Rattle.c_typing.proofs.MadePlaced.{numbered, node_there, kid_found, kid_in}
-use Rattle.c_typing.proofs.MadeParts.{least_kids, in_others, code_meant, all_parts, before_split}
-use Rattle.c_typing.proofs.MadeGroups.{ItemGood, Meant, label, statement, item_meant, BodiesGood, bodies_good, words_of, defaults_of, labels_are, others_are, groups_back}
+use Rattle.c_typing.proofs.MadePlaced.{numbered, node_there, kid_found}
+use Rattle.c_typing.proofs.MadeParts.{in_others, code_meant, all_parts, before_split}
+use Rattle.c_typing.proofs.MadeGroups.{ItemGood, Meant, label, statement, item_meant, bodies_good, words_of, defaults_of, labels_are, others_are, groups_back}
 use Rattle.c_typing.proofs.MadeEvery.{every_stmt, every_row, every_groups}
 use Rattle.c_typing.proofs.MadeForms.{is_active}
 use Rattle.c_typing.proofs.MadeAnything.{any_row}

@@ -1,28 +1,25 @@
 -- The parameter list that a parameter stands in, and the scope of that list.
-use Rattle.std.proofs.Common.{◌≡◌, ◌⊎◌, inl, inr, ℕ, zero, suc, ◌+◌, ◌<◌, ◌≤◌, Bool, true, false, ◌||◌, ◌&&◌, not, cond, List, [], ◌∷◌, ◌++◌, length, map, Option, Some, None, refl, sym, ap, ◌∙◌, subst, arith, true≢false, unwrap_or, drop}
-use Rattle.std.specs.Prelude.{slice_get, get_or, if◌then◌else◌, find, position, nat_le, ◌==◌}
+use Rattle.std.proofs.Common.{◌≡◌, ◌⊎◌, inl, inr, ℕ, ◌<◌, ◌≤◌, true, List, [], ◌∷◌, map, Some, refl, sym, ap, ◌∙◌, subst, arith, true≢false, unwrap_or, drop}
+use Rattle.std.specs.Prelude.{slice_get}
 use Rattle.std.specs.List.{AllByRecursion}
 use Rattle.c_lexer.specs.declared.token.Token.{Token}
 use Rattle.c_syntax.specs.declared.kind.SynKind.{SynKind}
 use Rattle.c_syntax.specs.declared.kind.SynKind.TheVariants as kind
-use Rattle.c_syntax.specs.Trees.{Tree, one}
+use Rattle.c_syntax.specs.Trees.{Tree}
 use Rattle.c_syntax.specs.Tables.{table_of}
 use Rattle.c_grammar.specs.Derivation.{IsTreeOf}
-use Rattle.c_typing.specs.Places.{Node, nodes, node_at, kid, other_kids, index_in, parent_of, is_takes, is_declarator, nowhere, Scope, in_scope, scopes_of, scope_at}
-use Rattle.c_typing.specs.Names.{Entity, parameter, Places, places, Name, entity_by}
+use Rattle.c_typing.specs.Places.{Node, nodes, node_at, kid, other_kids}
+use Rattle.c_typing.specs.Names.{Name}
 use Rattle.c_typing.specs.Shapes as category
 use Rattle.c_typing.specs.Shapes.{Category, no_category, category_by, kids_fit, at_places, categories_of, stands_in}
 use Rattle.c_typing.specs.ShapesOfNodes.{as_id, category_at, HasParent}
 use Rattle.c_typing.proofs.ShapesNodes.{node_placed}
-use Rattle.c_typing.proofs.MadeNodes.{In, in_at, in_back, Ascends, ascending, nested, crossed, node_bounds, kid_within}
+use Rattle.c_typing.proofs.MadeNodes.{In, in_at, in_back, Ascends, ascending, nested, kid_within}
 use Rattle.c_typing.proofs.MadeParts.{least_kids}
-use Rattle.c_typing.proofs.MadePlaced.{numbered, found, node_there, kid_found, kid_in}
+use Rattle.c_typing.proofs.MadePlaced.{found, node_there, kid_in}
 use Rattle.c_typing.proofs.MadeTop.{category_is, has_parent}
 use Rattle.c_typing.proofs.MadeWhole.{begins_named, named_so}
-use Rattle.c_typing.proofs.MadeDistinct.{same_id, three_ways, body_unnamed, no_body}
-use Rattle.c_typing.proofs.MadeScopes.{is_body}
 use Rattle.c_typing.proofs.MadeFunctionNames.{place_known}
-use Rattle.c_typing.proofs.MadeObjects.{position_there}
 use Rattle.c_typing.proofs.MadeKept.{Low}
 
 first_fits : (text : List ℕ) (cs : List Category) → kids_fit kind.Takes text cs ≡ true → slice_get cs 0 ≡ Some category.declarator

@@ -1,6 +1,6 @@
 -- Each local that the code of a function names is one of its own.
-use Rattle.std.proofs.Common.{◌≡◌, ◌⊎◌, inl, inr, ℕ, zero, suc, ◌+◌, ◌<◌, ◌≤◌, Bool, true, false, ◌||◌, ◌&&◌, List, [], ◌∷◌, length, map, drop, Option, Some, None, refl, sym, ap, ◌∙◌, subst, arith, true≢false, unwrap_or}
-use Rattle.std.specs.Prelude.{slice_get, filter_map, if◌then◌else◌, find, sum, nat_lt, codes, ◌==◌}
+use Rattle.std.proofs.Common.{◌≡◌, ℕ, ◌+◌, ◌<◌, Bool, true, false, ◌||◌, ◌&&◌, List, length, map, drop, Some, refl, sym, ap, ◌∙◌, subst, arith, true≢false}
+use Rattle.std.specs.Prelude.{slice_get, if◌then◌else◌, sum, nat_lt, codes, ◌==◌}
 use Rattle.std.specs.List.{AllByRecursion}
 use Rattle.std.specs.Str.{bytes_eq}
 use Rattle.c_lexer.specs.declared.token.Token.{Token}
@@ -11,22 +11,21 @@ use Rattle.c_grammar.specs.Derivation.{IsTreeOf}
 use Rattle.c_types.specs.declared.tree.Expr.{Expr}
 use Rattle.c_types.specs.declared.tree.Stmt.{Stmt}
 use Rattle.c_types.specs.declared.tree.Func.{Func}
-use Rattle.c_types.specs.Forms.{const, address, local, set_local, load, store, binary, convert, both, either, choose, seq, call, get_char, put_char, copy, unset}
+use Rattle.c_types.specs.Forms.{local, set_local, unset}
 use Rattle.c_types.specs.Every.{EveryExpr, EveryStmt, InEveryExpr, InEveryStmt, own_exprs}
 use Rattle.c_types.specs.WellMade.{NamesLocal, UnsetsLocal}
-use Rattle.c_typing.specs.Types.{CType}
-use Rattle.c_typing.specs.Places.{Node, nodes, node_at, kid, other_kids, index_in, says, is_file_scope, own_takes, Scope, in_scope, scopes_of, scope_at, specs_of}
-use Rattle.c_typing.specs.Names.{Entity, typedef_name, function_name, static_object, automatic, parameter, enumerator, Places, places, Name, names_at, denoted, name_of, declared_entity, entity_by, named_locals, local_number, function_around}
-use Rattle.c_typing.specs.Judgements.{Callee, Typing, expresses, Judgement, means, defines, judgement_at, hidden_in}
+use Rattle.c_typing.specs.Places.{Node, nodes, node_at, kid, other_kids, index_in, says, is_file_scope, Scope, in_scope, scopes_of, scope_at, specs_of}
+use Rattle.c_typing.specs.Names.{Entity, typedef_name, function_name, static_object, automatic, parameter, places, Name, denoted, name_of, declared_entity, entity_by, named_locals, local_number}
+use Rattle.c_typing.specs.Judgements.{Typing, expresses, Judgement, means, defines, judgement_at, hidden_in}
 use Rattle.c_typing.specs.Expressions.{hidden_before}
-use Rattle.c_typing.specs.Typing.{judgements_at, defined_in, unit_in, locals_of}
+use Rattle.c_typing.specs.Typing.{judgements_at, unit_in, locals_of}
 use Rattle.c_typing.proofs.MadeJudged.{IsFront}
 use Rattle.c_typing.proofs.MadeNodes.{In, in_at, crossed, node_bounds}
 use Rattle.c_typing.proofs.MadeParts.{least_kids}
-use Rattle.c_typing.proofs.MadePlaced.{numbered, found, node_there, kid_found, kid_in}
+use Rattle.c_typing.proofs.MadePlaced.{numbered, node_there, kid_found, kid_in}
 use Rattle.c_typing.proofs.MadeAround.{both_true, equal_so, find_is}
 use Rattle.c_typing.proofs.MadeDefined.{Defined, defined_at}
-use Rattle.c_typing.proofs.MadeNames.{Named, Declares, by_declarator, by_enumerator, Names}
+use Rattle.c_typing.proofs.MadeNames.{Named, Declares, by_declarator, by_enumerator}
 use Rattle.c_typing.proofs.MadeFunctionNames.{names_here}
 use Rattle.c_typing.proofs.MadeFunctions.{functions_good}
 use Rattle.c_typing.proofs.MadeEvery.{every_stmt}
@@ -36,10 +35,10 @@ use Rattle.c_typing.proofs.MadeKept.{low_by, owner_of_object}
 use Rattle.c_typing.proofs.MadeCode.{is_quiet, is_named_local, Each, Leaves}
 use Rattle.c_typing.proofs.MadeEverywhere.{all_code}
 use Rattle.c_typing.proofs.MadeHidden.{hidden_below}
-use Rattle.c_typing.proofs.MadeInner.{Innermost, innermost_of}
+use Rattle.c_typing.proofs.MadeInner.{innermost_of}
 use Rattle.c_typing.proofs.MadeInside.{InBody, body_up, body_in, around_is, automatic_below}
 use Rattle.c_typing.proofs.MadeParameters.{no_file, automatic_by}
-use Rattle.c_typing.proofs.MadeLists.{Listed, listed_by}
+use Rattle.c_typing.proofs.MadeLists.{listed_by}
 use Rattle.c_typing.proofs.MadeParameter.{own_list, parameter_below}
 
 -- ---- of which owners parameters are

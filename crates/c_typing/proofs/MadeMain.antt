@@ -1,6 +1,6 @@
 -- A function that is called `main` and has no parameters is defined.
-use Rattle.std.proofs.Common.{◌≡◌, ◌⊎◌, inl, inr, ℕ, zero, suc, ◌+◌, ◌<◌, ◌≤◌, Bool, true, false, ◌||◌, ◌&&◌, not, cond, List, [], ◌∷◌, ◌++◌, length, map, get_or, Option, Some, None, refl, sym, ap, ◌∙◌, subst, arith, true≢false, unwrap_or}
-use Rattle.std.specs.Prelude.{slice_get, find, position, filter, filter_map, codes, option_map, if◌then◌else◌, ◌==◌}
+use Rattle.std.proofs.Common.{◌≡◌, ◌⊎◌, inl, inr, ℕ, zero, suc, ◌<◌, ◌≤◌, Bool, true, false, ◌&&◌, not, cond, List, [], ◌∷◌, length, get_or, Option, Some, None, refl, sym, ap, ◌∙◌, subst, arith, true≢false, unwrap_or}
+use Rattle.std.specs.Prelude.{slice_get, position, filter, filter_map, codes, option_map, ◌==◌}
 use Rattle.std.specs.Option.{is_some}
 use Rattle.std.specs.Str.{bytes_eq}
 use Rattle.std.proofs.lemmas.List.Quantifiers.{position-Some}
@@ -8,32 +8,30 @@ use Rattle.std.proofs.lemmas.Slice.Eq.{bytes_eq-Decides}
 use Rattle.c_lexer.specs.declared.token.Token.{Token}
 use Rattle.c_syntax.specs.declared.kind.SynKind.{SynKind}
 use Rattle.c_syntax.specs.declared.kind.SynKind.TheVariants as kind
-use Rattle.c_syntax.specs.Trees.{Tree, one}
-use Rattle.c_syntax.specs.Tables.{size}
+use Rattle.c_syntax.specs.Trees.{Tree}
 use Rattle.c_grammar.specs.Derivation.{IsTreeOf}
 use Rattle.c_types.specs.declared.tree.Func.{Func}
 use Rattle.c_types.specs.WellMade.{IsMain}
 use Rattle.std.specs.List.{cons_option}
-use Rattle.c_typing.specs.Types.{Layout, CType, CTypes, function, integer, int, same, same_all, no_types, types_of}
-use Rattle.c_typing.specs.Places.{Node, nodes, node_at, kid, other_kids, is_function, own_takes, is_takes, is_step, next_to_name, parent_of}
-use Rattle.c_typing.specs.Names.{Places, places, function_text, function_number, parameters_of}
-use Rattle.c_typing.specs.Judgements.{Fault, Step, of_function, PlacedStep, Judgement, means, defines, judgement_at, faults_in, faults_of, layouts, verdict, itself}
+use Rattle.c_typing.specs.Types.{Layout, CType, function, integer, int, same, same_all, no_types, types_of}
+use Rattle.c_typing.specs.Places.{Node, nodes, kid, other_kids, is_function, own_takes, is_takes, is_step, next_to_name, parent_of}
+use Rattle.c_typing.specs.Names.{places, function_text, function_number, parameters_of}
+use Rattle.c_typing.specs.Judgements.{Fault, of_function, PlacedStep, Judgement, means, defines, judgement_at, faults_in, layouts, verdict, itself}
 use Rattle.c_typing.specs.Rules.{no_main, bad_main, broken_if, gives_int}
-use Rattle.c_typing.specs.Declarators.{Built, built, build, stepped_from, stepped_type, adjusted}
+use Rattle.c_typing.specs.Declarators.{built, build, stepped_from, adjusted}
 use Rattle.c_typing.specs.Typing.{unit_node, judged_by, judgements_at, defined_in}
 use Rattle.c_typing.proofs.MadeJudged.{stands, no_fault_of}
 use Rattle.c_typing.proofs.MadeNodes.{In, in_at, at_in, root_node, root_among, root_label}
-use Rattle.c_typing.proofs.MadePlaced.{found, numbered, node_there}
+use Rattle.c_typing.proofs.MadePlaced.{found, node_there}
 use Rattle.c_typing.proofs.MadeTop.{unit_kind, is_unit_category}
 use Rattle.c_typing.specs.Shapes.{categories}
 use Rattle.c_typing.proofs.ShapesLaw.{root_is_unit}
 use Rattle.c_typing.proofs.MadeAround.{both_true, equal_so, find_is}
 use Rattle.c_typing.proofs.MadeDistinct.{larger, three_ways}
-use Rattle.c_typing.proofs.MadeDeclarators.{Whole}
-use Rattle.c_typing.proofs.MadeDefined.{Clean, Defined, defined_at, TakesAt, own_takes_at}
+use Rattle.c_typing.proofs.MadeDefined.{Clean, Defined, defined_at, own_takes_at}
 use Rattle.c_typing.proofs.MadeFunctionNames.{FunctionName, Kept, kept_of}
-use Rattle.c_typing.proofs.MadeTexts.{Faultless, faultless, text_is}
-use Rattle.c_typing.proofs.MadeChains.{Chain, Starts, chains}
+use Rattle.c_typing.proofs.MadeTexts.{faultless, text_is}
+use Rattle.c_typing.proofs.MadeChains.{Chain, chains}
 
 -- ---- positions
 

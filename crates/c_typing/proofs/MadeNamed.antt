@@ -1,27 +1,24 @@
 -- Each object that the code of a function names is one of the unit.
-use Rattle.std.proofs.Common.{◌≡◌, ℕ, zero, suc, ◌+◌, ◌<◌, Bool, true, false, List, [], ◌∷◌, length, Some, refl, sym, ap, ◌∙◌, subst, arith, true≢false, unwrap_or}
-use Rattle.std.specs.Prelude.{slice_get, filter_map}
+use Rattle.std.proofs.Common.{◌≡◌, ℕ, ◌<◌, true, List, length, Some, sym, ap, arith, true≢false}
+use Rattle.std.specs.Prelude.{slice_get}
 use Rattle.std.specs.List.{AllByRecursion}
 use Rattle.c_lexer.specs.declared.token.Token.{Token}
-use Rattle.c_syntax.specs.declared.kind.SynKind.{SynKind}
-use Rattle.c_syntax.specs.declared.kind.SynKind.TheVariants as kind
 use Rattle.c_syntax.specs.Trees.{Tree}
 use Rattle.c_grammar.specs.Derivation.{IsTreeOf}
 use Rattle.c_types.specs.declared.tree.Expr.{Expr}
-use Rattle.c_types.specs.declared.tree.Stmt.{Stmt}
 use Rattle.c_types.specs.declared.tree.Func.{Func}
 use Rattle.c_types.specs.declared.tree.Unit.{Unit as WholeUnit}
-use Rattle.c_types.specs.Forms.{const, address, local, set_local, load, store, binary, convert, both, either, choose, seq, call, get_char, put_char, copy}
+use Rattle.c_types.specs.Forms.{address}
 use Rattle.c_types.specs.Every.{EveryExpr, EveryStmt, InEveryExpr, own_exprs}
 use Rattle.c_types.specs.WellMade.{NamesObject}
 use Rattle.c_typing.specs.Types.{CType}
 use Rattle.c_typing.specs.Places.{Node, nodes, is_string, is_whole}
-use Rattle.c_typing.specs.Names.{Places, places, objects_of}
-use Rattle.c_typing.specs.Judgements.{Callee, means, declares, defines, judgement_at}
+use Rattle.c_typing.specs.Names.{places, objects_of}
+use Rattle.c_typing.specs.Judgements.{means, declares, judgement_at}
 use Rattle.c_typing.specs.Shapes as category
 use Rattle.c_typing.specs.ShapesOfNodes.{category_at}
-use Rattle.c_typing.specs.Expressions.{literals_before, literal}
-use Rattle.c_typing.specs.Typing.{judgements_at, defined_in, unit_in, data_of, literals_of}
+use Rattle.c_typing.specs.Expressions.{literal}
+use Rattle.c_typing.specs.Typing.{judgements_at, unit_in}
 use Rattle.c_typing.proofs.MadeDefined.{Clean}
 use Rattle.c_typing.proofs.MadeEvery.{every_stmt}
 use Rattle.c_typing.proofs.MadeForming.{is_free}

@@ -1,15 +1,11 @@
 -- The names of a unit, each with its node.
-use Rattle.std.proofs.Common.{◌≡◌, ◌⊎◌, inl, inr, ℕ, zero, suc, ◌+◌, ◌<◌, ◌≤◌, Bool, true, false, ◌||◌, ◌&&◌, not, cond, List, [], ◌∷◌, ◌++◌, length, map, Option, Some, None, refl, sym, ap, ◌∙◌, subst, arith, true≢false, unwrap_or, append_assoc, append-nil, length-append}
-use Rattle.std.specs.Prelude.{slice_get, ◌==◌, find, filter}
-use Rattle.std.specs.List.{AllByRecursion}
-use Rattle.std.specs.Option.{is_some}
+use Rattle.std.proofs.Common.{◌≡◌, ◌⊎◌, inl, inr, ℕ, zero, suc, ◌+◌, ◌<◌, Bool, false, List, [], ◌∷◌, ◌++◌, length, Option, Some, None, refl, sym, ap, ◌∙◌, subst, arith}
+use Rattle.std.specs.Prelude.{slice_get}
 use Rattle.c_syntax.specs.declared.kind.SynKind.{SynKind}
 use Rattle.c_syntax.specs.declared.kind.SynKind.TheVariants as kind
-use Rattle.c_syntax.specs.Trees.{Tree}
-use Rattle.c_typing.specs.Places.{Node, nodes, node_at, kid, whole_declarator, specs_of, Scope, scopes_of, scope_at}
-use Rattle.c_typing.specs.Names.{Entity, enumerator, Name, declares_function, entity_by, name_list, declared_name, names_by, names_from, places, name_of}
+use Rattle.c_typing.specs.Places.{Node, node_at, whole_declarator, specs_of, Scope, scopes_of, scope_at}
+use Rattle.c_typing.specs.Names.{Entity, enumerator, Name, declares_function, entity_by, name_list, names_by, names_from}
 use Rattle.c_typing.proofs.MadeNodes.{In, in_front, in_back, in_either}
-use Rattle.c_typing.proofs.MadeAround.{find_is, equal_so}
 
 -- how a node declares a name, behind these names
 pub data Declares (s : List Node) (before : List Name) (node : Node) (e : Name) : Type 0 where

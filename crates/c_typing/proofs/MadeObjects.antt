@@ -1,36 +1,33 @@
 -- Each object that is named is there.
-use Rattle.std.proofs.Common.{◌≡◌, ◌⊎◌, inl, inr, ℕ, zero, suc, ◌+◌, ◌<◌, ◌≤◌, Bool, true, false, ◌||◌, ◌&&◌, not, cond, List, [], ◌∷◌, ◌++◌, length, map, Option, Some, None, refl, sym, ap, ap₂, ◌∙◌, subst, arith, true≢false, unwrap_or, length-append, get_or}
-use Rattle.std.specs.Prelude.{slice_get, if◌then◌else◌, find, filter, filter_map, flat_map, position, zip, nat_lt, nat_le, ◌==◌}
-use Rattle.std.specs.List.{AllByRecursion, last_or, list_any, position_or_len}
+use Rattle.std.proofs.Common.{◌≡◌, ◌⊎◌, inl, inr, ℕ, zero, suc, ◌+◌, ◌<◌, ◌≤◌, Bool, true, false, ◌||◌, ◌&&◌, not, cond, List, [], ◌∷◌, ◌++◌, length, map, Option, Some, None, refl, sym, ap, ◌∙◌, subst, arith, true≢false, unwrap_or, length-append}
+use Rattle.std.specs.Prelude.{slice_get, if◌then◌else◌, find, filter, flat_map, position, zip, nat_lt, nat_le, ◌==◌}
+use Rattle.std.specs.List.{last_or, list_any, position_or_len}
 use Rattle.std.specs.Option.{is_some}
 use Rattle.std.specs.Str.{bytes_eq}
 use Rattle.std.proofs.lemmas.Slice.Eq.{bytes_eq-Decides}
-use Rattle.std.proofs.lemmas.List.Quantifiers.{position-Some}
 use Rattle.c_lexer.specs.declared.token.Token.{Token}
-use Rattle.c_syntax.specs.declared.kind.SynKind.{SynKind}
 use Rattle.c_syntax.specs.declared.kind.SynKind.TheVariants as kind
 use Rattle.c_syntax.specs.Trees.{Tree}
 use Rattle.c_grammar.specs.Derivation.{IsTreeOf}
 use Rattle.c_typing.specs.Types.{CType}
 use Rattle.c_typing.specs.Places.{Node, nodes, is_whole, is_file_scope, is_string, end_of}
-use Rattle.c_typing.specs.Names.{Entity, typedef_name, function_name, static_object, automatic, parameter, enumerator, Places, places, Name, is_static, is_again, earlier, is_initialized, defines_object, is_defined_object, objects_of, object_number, innermost, inner_of, names_at, denoted}
-use Rattle.c_typing.specs.Judgements.{Fault, PlacedStep, Typing, Meaning, expresses, Judgement, means, declares, judgement_at, layouts}
+use Rattle.c_typing.specs.Names.{Entity, static_object, Places, places, Name, is_static, is_again, earlier, is_initialized, defines_object, is_defined_object, objects_of, object_number, innermost, inner_of, names_at, denoted}
+use Rattle.c_typing.specs.Judgements.{Typing, Meaning, expresses, Judgement, means, declares, judgement_at, layouts}
 use Rattle.c_typing.specs.Rules.{are_functions, may_be_again, agree_with, is_refused, declared_twice, broken_if, no_definition}
 use Rattle.c_typing.specs.Declarators.{object_size, name_faults, declared_faults, type_before}
 use Rattle.c_typing.specs.Expressions.{is_literal, literals_before}
 use Rattle.c_typing.specs.Shapes as category
 use Rattle.c_typing.specs.ShapesOfNodes.{category_at}
-use Rattle.c_typing.specs.Typing.{judgements_at, data_of, object_of, literals_of, literal_object, is_there, use_faults, place_faults_by, place_faults}
+use Rattle.c_typing.specs.Typing.{judgements_at, data_of, object_of, literals_of, literal_object, is_there, use_faults, place_faults_by}
 use Rattle.c_typing.proofs.MadeJudged.{IsFront}
 use Rattle.c_typing.proofs.MadeNodes.{In, in_at}
 use Rattle.c_typing.proofs.MadeAround.{both_true, and_true, equal_so, find_is}
 use Rattle.c_typing.proofs.MadeDefined.{Clean}
-use Rattle.c_typing.proofs.MadeDeclarators.{Whole, Chains}
 use Rattle.c_typing.proofs.MadeFunctionNames.{find_one, Anything, no_chains}
 use Rattle.c_typing.proofs.MadeTexts.{front_none, back_none}
 use Rattle.c_typing.proofs.MadeOnce.{filter_in, last_there}
 use Rattle.c_typing.proofs.MadeMain.{filter_so}
-use Rattle.c_typing.proofs.MadeKept.{is_object_entity, KeptName, kept_name, object_named, last_in}
+use Rattle.c_typing.proofs.MadeKept.{is_object_entity, kept_name, object_named, last_in}
 
 -- ---- names of one scope with one text
 

@@ -1,29 +1,28 @@
 -- No two functions have one name.
-use Rattle.std.proofs.Common.{◌≡◌, ◌⊎◌, inl, inr, ℕ, zero, suc, ◌+◌, ◌<◌, ◌≤◌, Bool, true, false, ◌||◌, ◌&&◌, not, cond, List, [], ◌∷◌, ◌++◌, length, map, Option, Some, None, refl, sym, ap, ap₂, ◌∙◌, subst, arith, true≢false}
-use Rattle.std.specs.Prelude.{slice_get, if◌then◌else◌, filter, filter_map, nat_lt, ◌==◌}
+use Rattle.std.proofs.Common.{◌≡◌, ◌⊎◌, inl, inr, ℕ, ◌<◌, ◌≤◌, Bool, true, false, ◌&&◌, not, cond, List, [], ◌∷◌, map, Option, Some, None, refl, sym, ap, ap₂, ◌∙◌, subst, arith, true≢false}
+use Rattle.std.specs.Prelude.{slice_get, filter, filter_map, nat_lt, ◌==◌}
 use Rattle.std.specs.List.{AllByRecursion, IsDistinct, list_any, last_or}
 use Rattle.std.specs.Str.{bytes_eq}
 use Rattle.c_lexer.specs.declared.token.Token.{Token}
 use Rattle.c_syntax.specs.declared.kind.SynKind.{SynKind}
 use Rattle.c_syntax.specs.declared.kind.SynKind.TheVariants as kind
 use Rattle.c_syntax.specs.Trees.{Tree}
-use Rattle.c_syntax.specs.Tables.{size}
 use Rattle.c_grammar.specs.Derivation.{IsTreeOf}
 use Rattle.c_types.specs.declared.tree.Func.{Func}
 use Rattle.c_typing.specs.Types.{CType}
 use Rattle.c_typing.specs.Places.{Node, nodes, node_at, kid, has_kid}
 use Rattle.c_typing.specs.Names.{Places, places, Name, is_again, earlier, is_initialized}
-use Rattle.c_typing.specs.Judgements.{Fault, defines, means, judgement_at}
+use Rattle.c_typing.specs.Judgements.{defines, means, judgement_at}
 use Rattle.c_typing.specs.Rules.{may_be_again, is_refused, agree_with, declared_twice, broken_if}
 use Rattle.c_typing.specs.Typing.{judgements_at, defined_in}
 use Rattle.c_typing.proofs.MadeNodes.{In, in_at, node_bounds}
 use Rattle.c_typing.proofs.MadeParts.{least_kids}
 use Rattle.c_typing.proofs.MadePlaced.{numbered, node_there, kid_found, kid_in, kid_has}
-use Rattle.c_typing.proofs.MadeAround.{both_true, and_true, one_any}
+use Rattle.c_typing.proofs.MadeAround.{and_true, one_any}
 use Rattle.c_typing.proofs.MadeTop.{around_function}
 use Rattle.c_typing.proofs.MadeFunctions.{Pairs, functions_pairs}
 use Rattle.c_typing.proofs.MadeDefined.{Defined, defined_at}
-use Rattle.c_typing.proofs.MadeFunctionNames.{FunctionName, Kept, kept_of, Anything, no_chains}
+use Rattle.c_typing.proofs.MadeFunctionNames.{FunctionName, kept_of, Anything, no_chains}
 use Rattle.c_typing.proofs.MadeTexts.{faultless, text_is}
 use Rattle.c_typing.proofs.MadeDistinct.{in_file_scope}
 

@@ -1,16 +1,16 @@
 -- What holds of all that statements, labels and functions mean holds of the meanings of their nodes.
-use Rattle.std.proofs.Common.{◌≡◌, ℕ, Bool, true, false, cond, List, [], ◌∷◌, Option, Some, None, refl, sym, true≢false}
+use Rattle.std.proofs.Common.{◌≡◌, ℕ, Bool, true, false, cond, List, Option, sym, true≢false}
 use Rattle.c_syntax.specs.declared.kind.SynKind.{SynKind}
 use Rattle.c_syntax.specs.declared.kind.SynKind.TheVariants as kind
 use Rattle.c_types.specs.declared.tree.Stmt.{Stmt}
 use Rattle.c_types.specs.declared.tree.Cell.{Cell}
 use Rattle.c_types.specs.declared.tree.Func.{Func}
 use Rattle.c_typing.specs.Types.{CType}
-use Rattle.c_typing.specs.Places.{Node, kid}
+use Rattle.c_typing.specs.Places.{Node}
 use Rattle.c_typing.specs.Names.{Places, Name}
 use Rattle.c_typing.specs.Judgements.{Meaning, performs, initialized, labels, defines, Judgement, means}
 use Rattle.c_typing.specs.Initializers.{Part, initialized_object, init_by, init_declarator}
-use Rattle.c_typing.specs.Statements.{declaration, block_node, expression_statement, if_statement, while_statement, do_statement, for_statement, break_statement, continue_statement, return_by, return_statement, switch_statement, case_label, default_label}
+use Rattle.c_typing.specs.Statements.{declaration, block_node, expression_statement, if_statement, while_statement, do_statement, for_statement, break_statement, continue_statement, return_by, return_statement, switch_statement}
 use Rattle.c_typing.specs.Typing.{function_node, judged_by}
 use Rattle.c_typing.proofs.MadeJudged.{Yields, yields_verdict, yields_besides, yields_given}
 use Rattle.c_typing.proofs.MadeForms.{yields_if, case_row, default_row}

@@ -1,21 +1,21 @@
 -- The innermost scope of a parameter is that of its list.
-use Rattle.std.proofs.Common.{◌≡◌, ◌⊎◌, inl, inr, ℕ, zero, suc, ◌+◌, ◌<◌, ◌≤◌, Bool, true, false, ◌||◌, ◌&&◌, not, cond, List, [], ◌∷◌, ◌++◌, length, map, Option, Some, None, refl, sym, ap, ◌∙◌, subst, arith, true≢false, unwrap_or, drop}
-use Rattle.std.specs.Prelude.{slice_get, get_or, if◌then◌else◌, find, filter, position, nat_le, ◌==◌}
-use Rattle.std.specs.List.{AllByRecursion, last_or}
+use Rattle.std.proofs.Common.{◌≡◌, ◌⊎◌, inl, inr, ℕ, ◌+◌, ◌<◌, ◌≤◌, Bool, true, false, ◌||◌, ◌&&◌, List, [], ◌∷◌, map, Option, Some, None, refl, sym, ap, ◌∙◌, subst, arith, true≢false, unwrap_or}
+use Rattle.std.specs.Prelude.{slice_get, get_or, if◌then◌else◌, filter, nat_le, ◌==◌}
+use Rattle.std.specs.List.{last_or}
 use Rattle.c_lexer.specs.declared.token.Token.{Token}
 use Rattle.c_syntax.specs.declared.kind.SynKind.{SynKind}
 use Rattle.c_syntax.specs.declared.kind.SynKind.TheVariants as kind
-use Rattle.c_syntax.specs.Trees.{Tree, one}
+use Rattle.c_syntax.specs.Trees.{Tree}
 use Rattle.c_syntax.specs.Tables.{table_of}
 use Rattle.c_grammar.specs.Derivation.{IsTreeOf}
 use Rattle.c_grammar.specs.Vocabulary.{is_storage_word, is_type_word}
-use Rattle.c_typing.specs.Places.{Node, nodes, node_at, kid, parent_of, is_takes, is_step, is_function, is_declarator, is_next_to_name, next_to_name, in_declarator, whole_declarator, own_takes, belongs_to_block, takes_before, nowhere, Scope, in_scope, plain_scope, block_scope, scope_by}
-use Rattle.c_typing.specs.Names.{Places, places, Name}
+use Rattle.c_typing.specs.Places.{Node, nodes, node_at, kid, parent_of, is_takes, is_step, is_function, is_declarator, is_next_to_name, next_to_name, in_declarator, whole_declarator, own_takes, belongs_to_block, nowhere, Scope, in_scope, plain_scope, block_scope, scope_by}
+use Rattle.c_typing.specs.Names.{Name}
 use Rattle.c_typing.specs.Shapes as category
 use Rattle.c_typing.specs.Shapes.{Category, no_category, category_by, declarator_over, in_parentheses, kids_fit, at_places, categories_of, stands_in, begins_with}
 use Rattle.c_typing.specs.ShapesOfNodes.{as_id, category_at, HasParent}
 use Rattle.c_typing.proofs.ShapesNodes.{node_placed}
-use Rattle.c_typing.proofs.MadeNodes.{In, in_at, in_back, nested, crossed, node_bounds, kid_within}
+use Rattle.c_typing.proofs.MadeNodes.{In, in_at, in_back, nested, crossed, node_bounds}
 use Rattle.c_typing.proofs.MadeParts.{least_kids}
 use Rattle.c_typing.proofs.MadePlaced.{Found, numbered, found, node_there, kid_found, kid_in}
 use Rattle.c_typing.proofs.MadeAround.{both_true, and_true, equal_so, so_low, find_is}
@@ -26,7 +26,7 @@ use Rattle.c_typing.proofs.MadeScopes.{is_body}
 use Rattle.c_typing.proofs.MadeFunctionNames.{place_known}
 use Rattle.c_typing.proofs.MadeMain.{function_kind, filter_so}
 use Rattle.c_typing.proofs.MadeOnce.{filter_in, last_there}
-use Rattle.c_typing.proofs.MadeKept.{Low, last_in, declarator_so}
+use Rattle.c_typing.proofs.MadeKept.{last_in, declarator_so}
 use Rattle.c_typing.proofs.MadeInner.{Innermost}
 use Rattle.c_typing.proofs.MadeLists.{Listed}
 

@@ -1,14 +1,13 @@
 -- A parameter that the body of a function names is one of its own.
-use Rattle.std.proofs.Common.{◌≡◌, ◌⊎◌, inl, inr, ℕ, zero, suc, ◌+◌, ◌<◌, ◌≤◌, Bool, true, false, ◌||◌, ◌&&◌, not, cond, List, [], ◌∷◌, ◌++◌, length, map, Option, Some, None, refl, sym, ap, ◌∙◌, subst, arith, true≢false, unwrap_or, drop}
-use Rattle.std.specs.Prelude.{slice_get, get_or, if◌then◌else◌, find, position, nat_le, ◌==◌, option_map}
+use Rattle.std.proofs.Common.{◌≡◌, ◌⊎◌, inl, inr, ℕ, ◌<◌, ◌≤◌, true, ◌&&◌, List, [], ◌∷◌, length, map, Some, refl, sym, ap, ◌∙◌, subst, arith, true≢false, unwrap_or}
+use Rattle.std.specs.Prelude.{slice_get, get_or, nat_le, ◌==◌, option_map}
 use Rattle.c_lexer.specs.declared.token.Token.{Token}
-use Rattle.c_syntax.specs.declared.kind.SynKind.{SynKind}
 use Rattle.c_syntax.specs.declared.kind.SynKind.TheVariants as kind
-use Rattle.c_syntax.specs.Trees.{Tree, one}
+use Rattle.c_syntax.specs.Trees.{Tree}
 use Rattle.c_syntax.specs.Tables.{size, table_of}
 use Rattle.c_grammar.specs.Derivation.{IsTreeOf}
-use Rattle.c_typing.specs.Places.{Node, nodes, node_at, kid, other_kids, index_in, parent_of, is_takes, is_unit, is_step, next_to_name, own_takes, Scope, in_scope, scopes_of, scope_at}
-use Rattle.c_typing.specs.Names.{Entity, parameter, Places, places, Name, parameters_of, named_locals, local_number, entity_by}
+use Rattle.c_typing.specs.Places.{Node, nodes, node_at, kid, other_kids, index_in, parent_of, is_takes, is_unit, is_step, next_to_name, own_takes, in_scope}
+use Rattle.c_typing.specs.Names.{parameter, places, Name, parameters_of, named_locals, local_number}
 use Rattle.c_typing.specs.Shapes as category
 use Rattle.c_typing.specs.Shapes.{Category, no_category, category_by, kids_fit, at_places, categories_of}
 use Rattle.c_typing.specs.ShapesOfNodes.{as_id, category_at}
@@ -23,11 +22,10 @@ use Rattle.c_typing.proofs.MadeDefined.{TakesAt, own_takes_at}
 use Rattle.c_typing.proofs.MadeFunctionNames.{FunctionName, function_name_of}
 use Rattle.c_typing.proofs.MadeDistinct.{same_id, three_ways, larger, no_body_around}
 use Rattle.c_typing.proofs.MadeObjects.{position_there}
-use Rattle.c_typing.proofs.MadeKept.{Low}
-use Rattle.c_typing.proofs.MadeInner.{Within, Behind, ScopeOf, of_unit, of_body, of_takes, of_function, Innermost, innermost_of}
+use Rattle.c_typing.proofs.MadeInner.{Within, Behind, ScopeOf, of_unit, of_body, of_takes, of_function, Innermost}
 use Rattle.c_typing.proofs.MadeInside.{InBody, holds_so}
 use Rattle.c_typing.proofs.MadeParameters.{no_takes, own_inside, block_owner}
-use Rattle.c_typing.proofs.MadeLists.{Listed, listed_by}
+use Rattle.c_typing.proofs.MadeLists.{Listed}
 use Rattle.c_typing.proofs.MadeOwn.{Stands, name_stands, body_around, Belongs, scope_first, fits_three}
 
 third_only : (known : List Category) (ks : List ℕ) (k : ℕ) → at_places known (map as_id ks) ≡ category.specifiers ∷ category.declarator ∷ category.block ∷ [] → In k ks → get_or known k no_category ≡ category.block → k ≡ unwrap_or (slice_get ks 2) 0

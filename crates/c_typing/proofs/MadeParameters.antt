@@ -1,29 +1,25 @@
 -- A parameter that the body of a function names is one of the function's own.
-use Rattle.std.proofs.Common.{◌≡◌, ◌⊎◌, inl, inr, ℕ, zero, suc, ◌+◌, ◌<◌, ◌≤◌, Bool, true, false, ◌||◌, ◌&&◌, not, cond, List, [], ◌∷◌, ◌++◌, length, map, Option, Some, None, refl, sym, ap, ◌∙◌, subst, arith, true≢false, unwrap_or, drop}
-use Rattle.std.specs.Prelude.{slice_get, if◌then◌else◌, find, position, nat_le, ◌==◌, option_map, codes}
+use Rattle.std.proofs.Common.{◌≡◌, ◌⊎◌, inl, inr, ℕ, ◌<◌, ◌≤◌, Bool, true, false, ◌||◌, ◌&&◌, List, ◌∷◌, Some, refl, sym, ap, ◌∙◌, subst, arith, true≢false}
+use Rattle.std.specs.Prelude.{slice_get, if◌then◌else◌, nat_le, ◌==◌, codes}
 use Rattle.c_lexer.specs.declared.token.Token.{Token}
-use Rattle.c_syntax.specs.declared.kind.SynKind.{SynKind}
 use Rattle.c_syntax.specs.declared.kind.SynKind.TheVariants as kind
-use Rattle.c_syntax.specs.Trees.{Tree, one}
-use Rattle.c_syntax.specs.Tables.{size}
+use Rattle.c_syntax.specs.Trees.{Tree}
 use Rattle.c_grammar.specs.Derivation.{IsTreeOf}
-use Rattle.c_typing.specs.Places.{Node, nodes, node_at, kid, kind_at, other_kids, index_in, parent_of, is_takes, is_step, next_to_name, is_unit, is_file_scope, own_takes, says, specs_of, Scope, in_scope, scopes_of, scope_at}
-use Rattle.c_typing.specs.Names.{Entity, automatic, parameter, static_object, typedef_name, function_name, enumerator, Places, places, Name, names_at, declared_entity, entity_by, named_locals, parameters_of, local_number}
-use Rattle.c_typing.proofs.MadeNodes.{In, in_at, in_back, nested, crossed, node_bounds, kid_within}
+use Rattle.c_typing.specs.Places.{Node, nodes, node_at, kid, kind_at, parent_of, is_takes, is_step, next_to_name, is_unit, is_file_scope, own_takes, says, Scope, in_scope}
+use Rattle.c_typing.specs.Names.{automatic, static_object, typedef_name, function_name, Name, declared_entity}
+use Rattle.c_typing.proofs.MadeNodes.{In, in_at, in_back, kid_within}
 use Rattle.c_typing.proofs.MadeParts.{least_kids}
 use Rattle.c_typing.proofs.MadePlaced.{numbered, found, node_there, kid_found, kid_in}
-use Rattle.c_typing.proofs.MadeNames.{Named, Declares, by_declarator, by_enumerator}
-use Rattle.c_typing.proofs.MadeFunctionNames.{FunctionName, function_name_of, names_here}
+use Rattle.c_typing.proofs.MadeFunctionNames.{FunctionName, function_name_of}
 use Rattle.c_typing.proofs.MadeDistinct.{same_id, three_ways, larger}
-use Rattle.c_typing.proofs.MadeScopes.{is_body, unit_last}
+use Rattle.c_typing.proofs.MadeScopes.{is_body}
 use Rattle.c_typing.specs.Shapes as category
 use Rattle.c_typing.specs.Shapes.{Category, category_by}
 use Rattle.c_typing.specs.ShapesOfNodes.{category_at}
 use Rattle.c_typing.proofs.MadeTop.{category_is, has_parent, unit_kind, is_unit_category}
-use Rattle.c_typing.proofs.MadeKept.{Low, low_by}
-use Rattle.c_typing.proofs.MadeInner.{Within, Behind, ScopeOf, of_unit, of_body, of_takes, of_function, Innermost, innermost_of}
-use Rattle.c_typing.proofs.MadeInside.{InBody, small, automatic_below, holds_so}
-use Rattle.c_typing.proofs.MadeDefined.{TakesAt, own_takes_at}
+use Rattle.c_typing.proofs.MadeInner.{Within, Behind, ScopeOf, of_unit, of_body, of_takes, of_function}
+use Rattle.c_typing.proofs.MadeInside.{InBody, small, holds_so}
+use Rattle.c_typing.proofs.MadeDefined.{own_takes_at}
 use Rattle.c_typing.proofs.MadeAround.{both_true, and_true, equal_so, find_is, so_low}
 
 module _ (tokens : List Token) (t : Tree) (derived : IsTreeOf tokens t) (m : ℕ) (fn : Node) (there : slice_get (nodes t) m ≡ Some fn) (is : fn.label.kind ≡ kind.Function) where

@@ -1,16 +1,15 @@
 -- What the parts of a node mean, where the node has a meaning.
-use Rattle.std.proofs.Common.{◌≡◌, ◌⊎◌, inl, inr, ℕ, zero, suc, ◌+◌, ◌<◌, ◌≤◌, Bool, true, false, List, [], ◌∷◌, ◌++◌, length, map, Option, Some, None, refl, sym, ap, ◌∙◌, subst, arith, true≢false, unwrap_or}
+use Rattle.std.proofs.Common.{◌≡◌, inl, inr, ℕ, zero, suc, ◌<◌, ◌≤◌, true, List, [], ◌∷◌, ◌++◌, length, map, Option, Some, None, refl, sym, ap, subst, arith, true≢false, unwrap_or}
 use Rattle.std.specs.Prelude.{slice_get, flat_map, option_map, drop}
 use Rattle.std.specs.List.{AllByRecursion}
 use Rattle.std.specs.Option.{is_some}
 use Rattle.c_syntax.specs.declared.kind.SynKind.{SynKind}
 use Rattle.c_syntax.specs.declared.kind.SynKind.TheVariants as kind
-use Rattle.c_syntax.specs.declared.syntax.SynId.{SynId}
 use Rattle.c_types.specs.declared.tree.Stmt.{Stmt}
 use Rattle.c_types.specs.declared.tree.Cell.{Cell}
 use Rattle.c_typing.specs.Types.{CType}
 use Rattle.c_typing.specs.Places.{Node, kid, has_kid, other_kids}
-use Rattle.c_typing.specs.Judgements.{Meaning, itself, a_type, a_struct, members, enumerates, steps, declares, expresses, fills_array, initial, initialized, performs, labels, defines, Judgement, means, breaks_rules, waits, Typing, typing_of, code_of, all_of, before}
+use Rattle.c_typing.specs.Judgements.{expresses, initialized, performs, Judgement, means, Typing, typing_of, code_of, all_of, before}
 use Rattle.c_typing.specs.Statements.{as_one, declarator_code}
 use Rattle.c_typing.specs.Shapes as category
 use Rattle.c_typing.specs.Shapes.{Category, kids_fit, at_places}

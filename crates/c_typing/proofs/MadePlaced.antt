@@ -1,15 +1,15 @@
 -- The nodes of a derived tree at their places, with their kids.
-use Rattle.std.proofs.Common.{◌≡◌, true, zero, suc, ℕ, ◌+◌, ◌<◌, ◌≤◌, List, [], ◌∷◌, length, Some, refl, sym, ap, ◌∙◌, subst, arith, unwrap_or}
+use Rattle.std.proofs.Common.{◌≡◌, true, zero, suc, ℕ, ◌<◌, ◌≤◌, List, [], ◌∷◌, length, Some, refl, sym, ap, subst, arith, unwrap_or}
 use Rattle.std.specs.Prelude.{slice_get}
 use Rattle.std.specs.Option.{is_some}
 use Rattle.c_lexer.specs.declared.token.Token.{Token}
-use Rattle.c_syntax.specs.Trees.{Tree, one}
+use Rattle.c_syntax.specs.Trees.{Tree}
 use Rattle.c_syntax.specs.Tables.{table_of}
 use Rattle.c_grammar.specs.Derivation.{IsTreeOf}
 use Rattle.c_typing.specs.Places.{Node, nodes, node_at, kid, has_kid, nowhere}
 use Rattle.c_typing.specs.Shapes.{categories_of}
 use Rattle.c_typing.proofs.ShapesNodes.{node_placed}
-use Rattle.c_typing.proofs.MadeNodes.{In, in_at, at_in, IsKid, kid_of, nested, kid_within}
+use Rattle.c_typing.proofs.MadeNodes.{In, in_at, at_in, kid_of, kid_within}
 use Rattle.c_typing.proofs.MadeParts.{least_kids, kids_enough, in_kids}
 
 -- the node at a place is a kid of this one

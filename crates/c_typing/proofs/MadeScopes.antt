@@ -1,17 +1,16 @@
 -- What the scopes of a unit hold.
-use Rattle.std.proofs.Common.{◌≡◌, ◌⊎◌, inl, inr, ℕ, zero, suc, ◌+◌, ◌<◌, ◌≤◌, Bool, true, false, ◌||◌, ◌&&◌, not, cond, List, [], ◌∷◌, ◌++◌, length, map, Option, Some, None, refl, sym, ap, ◌∙◌, subst, arith, true≢false, unwrap_or}
-use Rattle.std.specs.Prelude.{slice_get, if◌then◌else◌, find, nat_le, ◌==◌}
-use Rattle.std.specs.Option.{is_some}
+use Rattle.std.proofs.Common.{◌≡◌, inl, inr, ℕ, ◌+◌, ◌<◌, ◌≤◌, Bool, true, false, ◌||◌, ◌&&◌, List, [], ◌∷◌, Option, Some, None, refl, sym, ap, subst, arith, unwrap_or}
+use Rattle.std.specs.Prelude.{if◌then◌else◌, find, nat_le}
 use Rattle.c_lexer.specs.declared.token.Token.{Token}
 use Rattle.c_syntax.specs.declared.kind.SynKind.{SynKind}
 use Rattle.c_syntax.specs.declared.kind.SynKind.TheVariants as kind
-use Rattle.c_syntax.specs.Trees.{Tree, one}
+use Rattle.c_syntax.specs.Trees.{Tree}
 use Rattle.c_syntax.specs.Tables.{size}
 use Rattle.c_grammar.specs.Derivation.{IsTreeOf}
-use Rattle.c_typing.specs.Places.{Node, nodes, node_at, kid, parent_of, is_function, own_takes, Scope, in_scope, plain_scope, block_scope, takes_before, belongs_to_block, scope_by, scopes_from, scopes_of, scope_at, no_scope}
-use Rattle.c_typing.proofs.MadeNodes.{In, in_at, in_either, node_below, node_bounds, kid_within, root_node, root_among, root_label, root_last}
+use Rattle.c_typing.specs.Places.{Node, nodes, kid, parent_of, is_function, own_takes, Scope, in_scope, plain_scope, block_scope, takes_before, belongs_to_block, scope_by, scopes_from, scopes_of, scope_at, no_scope}
+use Rattle.c_typing.proofs.MadeNodes.{In, in_either, node_below, kid_within}
 use Rattle.c_typing.proofs.MadeParts.{least_kids}
-use Rattle.c_typing.proofs.MadePlaced.{found, numbered, kid_in}
+use Rattle.c_typing.proofs.MadePlaced.{found, kid_in}
 use Rattle.c_typing.proofs.MadeAround.{both_true, low_so, find_is}
 use Rattle.c_typing.proofs.MadeTop.{unit_is_root}
 use Rattle.c_typing.proofs.MadeDefined.{TakesAt, own_takes_at}

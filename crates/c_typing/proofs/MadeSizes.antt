@@ -1,26 +1,25 @@
 -- Sizes and alignments: each alignment is 1, 2 or 4, and each size is a multiple of it.
-use Rattle.std.proofs.Common.{◌≡◌, ◌⊎◌, inl, inr, ℕ, zero, suc, ◌+◌, ◌*◌, ◌-◌, ◌/◌, ◌%◌, ◌<◌, ◌≤◌, max, Bool, true, false, ◌||◌, cond, List, [], ◌∷◌, ◌++◌, length, map, Option, Some, None, refl, sym, ap, ◌∙◌, subst, arith, true≢false, unwrap_or, mul-zero}
+use Rattle.std.proofs.Common.{◌≡◌, ◌⊎◌, inl, inr, ℕ, suc, ◌+◌, ◌*◌, ◌-◌, ◌/◌, ◌%◌, max, Bool, true, false, ◌||◌, cond, List, [], ◌∷◌, ◌++◌, length, map, Option, Some, None, refl, sym, ap, ◌∙◌, subst, arith, true≢false, unwrap_or, mul-zero}
 use Rattle.std.proofs.Math.Nat.{mul-mod_left}
 use Rattle.std.proofs.lemmas.Nat.{mul-mod_second}
 use native.Mathlib.Nat.{zero-mul}
-use Rattle.std.specs.Prelude.{slice_get, filter_map, flat_map, find, option_map, ◌==◌}
+use Rattle.std.specs.Prelude.{flat_map, option_map, ◌==◌}
 use Rattle.std.specs.List.{AllByRecursion}
 use Rattle.c_syntax.specs.declared.kind.SynKind.{SynKind}
 use Rattle.c_syntax.specs.declared.kind.SynKind.TheVariants as kind
 use Rattle.c_types.specs.declared.kind.Measure.{Measure}
 use Rattle.c_types.specs.declared.tree.Object.{Object}
-use Rattle.c_types.specs.InOrder.{offsets, end_of, greatest_align, least_multiple}
+use Rattle.c_types.specs.InOrder.{end_of, greatest_align, least_multiple}
 use Rattle.c_types.specs.Sizes.{struct_measure, array_measure}
 use Rattle.c_types.specs.WellMade.{IsAlignment}
 use Rattle.c_typing.specs.Types as type
 use Rattle.c_typing.specs.Types.{CType, CTypes, void, integer, pointer, array, unsized, struct, function, Field, Layout, layout_of, measure, no_measure, traits_of, IntegerType}
-use Rattle.c_typing.specs.Places.{Node, kid}
+use Rattle.c_typing.specs.Places.{Node}
 use Rattle.c_typing.specs.Names.{Places, Name, objects_of}
-use Rattle.c_typing.specs.Judgements.{Meaning, a_struct, expresses, initial, initialized, performs, labels, defines, Judgement, means, breaks_rules, waits, judgement_at, layout_in, layouts, Typing}
+use Rattle.c_typing.specs.Judgements.{Meaning, a_struct, Judgement, means, judgement_at, layouts}
 use Rattle.c_typing.specs.Expressions.{type_of_name}
-use Rattle.c_typing.specs.Declarators.{laid, layout}
 use Rattle.c_typing.specs.Typing.{judged_by, judgements_at, object_of, literal_object, literals_of, data_of}
-use Rattle.c_typing.proofs.MadeJudged.{Yields, IsFront, Known, all_known}
+use Rattle.c_typing.proofs.MadeJudged.{Yields, Known, all_known}
 use Rattle.c_typing.proofs.MadeForms.{is_active, is_passive_kind, passive_row, braces_row, struct_row}
 use Rattle.c_typing.proofs.MadeAnything.{any_row}
 use Rattle.c_typing.proofs.MadeOthers.{is_statement_kind, statement_row, function_row}

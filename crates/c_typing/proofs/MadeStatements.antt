@@ -1,26 +1,26 @@
 -- What holds of the statements of all nodes, where it holds of the parts that they are made of.
-use Rattle.std.proofs.Common.{◌≡◌, ℕ, zero, suc, ◌+◌, ◌<◌, ◌≤◌, Bool, true, false, ◌&&◌, ◌||◌, List, [], ◌∷◌, ◌++◌, length, map, Option, Some, None, refl, sym, ap, ◌∙◌, subst, arith, true≢false, unwrap_or}
+use Rattle.std.proofs.Common.{◌≡◌, ℕ, ◌<◌, Bool, true, false, ◌||◌, List, [], ◌∷◌, length, map, Option, Some, None, refl, sym, ap, ◌∙◌, subst, arith, true≢false}
 use Rattle.std.specs.Prelude.{slice_get, if◌then◌else◌, option_map, flat_map}
 use Rattle.std.specs.List.{AllByRecursion}
 use Rattle.c_lexer.specs.declared.token.Token.{Token}
 use Rattle.c_syntax.specs.declared.kind.SynKind.{SynKind}
 use Rattle.c_syntax.specs.declared.kind.SynKind.TheVariants as kind
-use Rattle.c_syntax.specs.Trees.{Tree, one}
+use Rattle.c_syntax.specs.Trees.{Tree}
 use Rattle.c_grammar.specs.Derivation.{IsTreeOf}
 use Rattle.c_types.specs.declared.tree.Expr.{Expr}
 use Rattle.c_types.specs.declared.tree.Stmt.{Stmt}
 use Rattle.c_types.specs.declared.tree.Func.{Func}
 use Rattle.c_types.specs.Forms.{set_local, drop_expr, unset, return_with, if_else, loop, do_loop, break, continue}
 use Rattle.c_typing.specs.Types.{CType}
-use Rattle.c_typing.specs.Places.{Node, nodes, node_at, kind_at, kid, has_kid, other_kids, is_loop, is_switch, is_braces, nowhere}
-use Rattle.c_typing.specs.Names.{Places, places, Name, Entity, automatic, name_of, local_number, is_declaration}
-use Rattle.c_typing.specs.Judgements.{Meaning, expresses, initialized, performs, labels, defines, Judgement, means, Typing, Fault, given, verdict, judgement_at, typing_at, type_at, code_at, all_of}
+use Rattle.c_typing.specs.Places.{Node, nodes, node_at, kind_at, kid, has_kid, other_kids, is_loop, is_switch, is_braces}
+use Rattle.c_typing.specs.Names.{places, Name, Entity, automatic, name_of, local_number, is_declaration}
+use Rattle.c_typing.specs.Judgements.{Meaning, expresses, initialized, performs, labels, defines, Judgement, means, Typing, verdict, judgement_at, typing_at, code_at, all_of}
 use Rattle.c_typing.specs.Conversions.{value_of, converted_to, converted_code}
 use Rattle.c_typing.specs.Rules.{outside_a_loop, bad_initializer}
 use Rattle.c_typing.specs.Initializers.{Part, sole_value, initial_code, object_code, bare_code, is_object, initialized_object, init_by, init_declarator}
 use Rattle.c_typing.specs.Statements.{does, as_one, block_of, statement_at, declaration, declarator_code, block_node, expression_statement, empty_statement, if_statement, while_statement, do_statement, part_by, for_part, code_in, first_by, for_statement, is_inside, break_statement, continue_statement, return_by, return_statement, switch_statement, case_label, default_label}
 use Rattle.c_typing.specs.Typing.{function_node, judged_by, judgements_at}
-use Rattle.c_typing.proofs.MadeJudged.{Yields, yields_verdict, yields_besides, yields_given, IsFront, Known, Step, all_known, meant_later}
+use Rattle.c_typing.proofs.MadeJudged.{Yields, yields_verdict, yields_besides, yields_given, IsFront, Known, all_known, meant_later}
 use Rattle.c_typing.proofs.MadeNodes.{In}
 use Rattle.c_typing.proofs.MadeForms.{is_active, is_passive_kind, yields_if, yields_if_so, passive_row, braces_row, struct_row}
 use Rattle.c_typing.proofs.MadeParts.{least_kids, in_kids_where, in_others, typing_meant, code_meant, statement_meant, initialized_meant, all_parts, all_joined}

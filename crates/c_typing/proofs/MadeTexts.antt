@@ -1,24 +1,22 @@
 -- No function has the name of a library function.
-use Rattle.std.proofs.Common.{◌≡◌, ◌⊎◌, inl, inr, ℕ, zero, suc, ◌+◌, ◌<◌, ◌≤◌, Bool, true, false, ◌||◌, ◌&&◌, not, List, [], ◌∷◌, ◌++◌, length, map, Option, Some, None, refl, sym, ap, ◌∙◌, subst, arith, true≢false}
-use Rattle.std.specs.Prelude.{slice_get, codes, filter_map, Contains, if◌then◌else◌}
+use Rattle.std.proofs.Common.{◌≡◌, ℕ, zero, suc, Bool, true, false, ◌||◌, ◌&&◌, List, [], ◌∷◌, ◌++◌, map, refl, sym, ap, ◌∙◌, subst, arith, true≢false}
+use Rattle.std.specs.Prelude.{codes, filter_map, Contains}
 use Rattle.std.specs.List.{AllByRecursion}
-use Rattle.std.specs.Str.{bytes_eq}
 use Rattle.c_lexer.specs.declared.token.Token.{Token}
 use Rattle.c_syntax.specs.Trees.{Tree}
 use Rattle.c_grammar.specs.Derivation.{IsTreeOf}
 use Rattle.c_types.specs.declared.tree.Func.{Func}
 use Rattle.c_typing.specs.Types.{CType}
-use Rattle.c_typing.specs.Places.{Node, nodes, node_at, kid, text_at}
-use Rattle.c_typing.specs.Names.{function_name, Places, places, Name, function_text}
-use Rattle.c_typing.specs.Judgements.{Fault, PlacedStep, Judgement}
+use Rattle.c_typing.specs.Places.{Node, nodes, kid, text_at}
+use Rattle.c_typing.specs.Names.{function_name, Places, places, Name}
+use Rattle.c_typing.specs.Judgements.{Fault, Judgement}
 use Rattle.c_typing.specs.Rules.{is_getchar, is_putchar, bad_library_name, bad_main, declared_twice, broken_if}
 use Rattle.c_typing.specs.Declarators.{declared_faults, name_faults, type_before}
 use Rattle.c_typing.specs.Typing.{judgements_at, defined_in}
 use Rattle.c_typing.proofs.MadePlaced.{node_there}
-use Rattle.c_typing.proofs.MadeDeclarators.{Whole, Chains}
 use Rattle.c_typing.proofs.MadeDefined.{Defined, all_defined}
 use Rattle.c_typing.proofs.MadeFunctions.{functions_more}
-use Rattle.c_typing.proofs.MadeFunctionNames.{FunctionName, Kept, kept_of, Anything, no_chains}
+use Rattle.c_typing.proofs.MadeFunctionNames.{FunctionName, kept_of, Anything, no_chains}
 
 pub front_none : (xs ys : List Fault) → xs ++ ys ≡ [] → xs ≡ []
 front_none [] ys e = refl

@@ -1,17 +1,17 @@
 -- A function stands in the unit alone.
-use Rattle.std.proofs.Common.{◌≡◌, ◌⊎◌, inl, inr, ℕ, zero, suc, ◌+◌, ◌<◌, ◌≤◌, Bool, true, false, List, [], ◌∷◌, length, Some, refl, sym, ap, ◌∙◌, subst, arith, true≢false}
+use Rattle.std.proofs.Common.{◌≡◌, ◌⊎◌, inl, inr, ℕ, ◌<◌, ◌≤◌, Bool, true, false, List, [], ◌∷◌, Some, refl, sym, ap, ◌∙◌, subst, arith, true≢false}
 use Rattle.std.specs.Prelude.{slice_get, if◌then◌else◌}
 use Rattle.c_lexer.specs.declared.token.Token.{Token}
 use Rattle.c_syntax.specs.declared.kind.SynKind.{SynKind}
 use Rattle.c_syntax.specs.declared.kind.SynKind.TheVariants as kind
-use Rattle.c_syntax.specs.Trees.{Tree, one}
-use Rattle.c_syntax.specs.Tables.{size, table_of}
+use Rattle.c_syntax.specs.Trees.{Tree}
+use Rattle.c_syntax.specs.Tables.{size}
 use Rattle.c_grammar.specs.Derivation.{IsTreeOf}
 use Rattle.c_grammar.specs.Vocabulary.{is_storage_word, is_type_word}
-use Rattle.c_typing.specs.Places.{Node, nodes, is_unit}
+use Rattle.c_typing.specs.Places.{Node, nodes}
 use Rattle.c_typing.specs.Shapes as category
 use Rattle.c_typing.specs.Shapes.{Category, category_by, declarator_over, in_parentheses, categories, category_of, stands_in, at_places, categories_of}
-use Rattle.c_typing.specs.ShapesOfNodes.{as_id, category_at, HasParent}
+use Rattle.c_typing.specs.ShapesOfNodes.{category_at, HasParent}
 use Rattle.c_typing.proofs.ShapesLaw.{root_is_unit}
 use Rattle.c_typing.proofs.ShapesNodes.{node_placed, node_has_parent}
 use Rattle.c_typing.proofs.MadeNodes.{In, in_at, in_back, nested, node_below, root_node, root_among, root_label, root_last}

@@ -1,21 +1,20 @@
 -- The whole declarator of a name: what a function or a declaration declares.
-use Rattle.std.proofs.Common.{◌≡◌, ◌⊎◌, inl, inr, ℕ, zero, suc, ◌+◌, ◌<◌, ◌≤◌, Bool, true, false, ◌||◌, ◌&&◌, not, cond, List, [], ◌∷◌, ◌++◌, length, map, Option, Some, None, refl, sym, ap, ◌∙◌, subst, arith, true≢false, unwrap_or}
-use Rattle.std.specs.Prelude.{slice_get, get_or, ◌==◌, if◌then◌else◌, filter}
+use Rattle.std.proofs.Common.{◌≡◌, ◌⊎◌, inl, inr, ℕ, zero, suc, ◌<◌, ◌≤◌, Bool, true, false, cond, List, [], ◌∷◌, Option, Some, None, refl, sym, ap, ◌∙◌, subst, arith, true≢false, unwrap_or}
+use Rattle.std.specs.Prelude.{slice_get, ◌==◌, if◌then◌else◌, filter}
 use Rattle.std.specs.List.{last_or}
 use Rattle.c_lexer.specs.declared.token.Token.{Token}
 use Rattle.c_syntax.specs.declared.kind.SynKind.{SynKind}
 use Rattle.c_syntax.specs.declared.kind.SynKind.TheVariants as kind
-use Rattle.c_syntax.specs.Trees.{Tree, one}
-use Rattle.c_syntax.specs.Tables.{size, table_of}
+use Rattle.c_syntax.specs.Trees.{Tree}
 use Rattle.c_grammar.specs.Derivation.{IsTreeOf}
 use Rattle.c_grammar.specs.Vocabulary.{is_storage_word, is_type_word}
-use Rattle.c_typing.specs.Places.{Node, nodes, node_at, kid, nowhere, is_declarator, in_declarator, whole_declarator}
+use Rattle.c_typing.specs.Places.{Node, nodes, nowhere, is_declarator, in_declarator, whole_declarator}
 use Rattle.c_typing.specs.Shapes as category
 use Rattle.c_typing.specs.Shapes.{Category, no_category, category_by, word_category, declarator_over, in_parentheses, categories_of, at_places, kids_fit, begins_with, is_name, stands_in}
-use Rattle.c_typing.specs.ShapesOfNodes.{as_id, category_at, IsPlaced, HasParent}
+use Rattle.c_typing.specs.ShapesOfNodes.{category_at, HasParent}
 use Rattle.c_typing.proofs.ShapesNodes.{node_placed}
-use Rattle.c_typing.proofs.MadeNodes.{In, in_at, in_back, at_in, nested, node_bounds, crossed, kid_within}
-use Rattle.c_typing.proofs.MadePlaced.{Found, numbered, found, kid_found, kid_in}
+use Rattle.c_typing.proofs.MadeNodes.{In, in_at, in_back, nested, node_bounds, crossed, kid_within}
+use Rattle.c_typing.proofs.MadePlaced.{numbered, found, kid_found}
 use Rattle.c_typing.proofs.MadeAround.{both_true, and_true, equal_so}
 use Rattle.c_typing.proofs.MadeTop.{category_is, has_parent}
 
