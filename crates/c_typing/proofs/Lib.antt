@@ -61,4 +61,5 @@ pub mod MadeParameter
 pub mod MadeLocals
 pub mod MadeConstants
 pub mod MadeAddresses
+pub mod MadeTyped
 pub mod Made
