@@ -61,6 +61,8 @@ first_only text known (a ∷ b ∷ c ∷ ks) k h (inr i) g = absurd (many (get_o
 module _ (p : Places) (js : List Judgement) (node : Node) where
   abbrev Untouched : Meaning → Type 0
   Untouched (initialized u ss cs) = (e : Name) → name_of p (node_at p.nodes (kid node 0)).first ≡ Some e → is_object e.entity ≡ false → type_at js (kid node 0) ≡ Some u
+  Untouched (a_type u) = ⊥
+  Untouched (declares u) = ⊥
   Untouched m = Unit {0}
 
   other : (e a : Name) → name_of p (node_at p.nodes (kid node 0)).first ≡ Some e → name_of p (node_at p.nodes (kid node 0)).first ≡ Some a → e ≡ a
@@ -92,7 +94,7 @@ module _ (tokens : List Token) (t : Tree) (derived : IsTreeOf tokens t)
   -- the type of a name of a function, where it is declared, and once where again
   pub record Declared (x : Name) : Type 0 where
     pub type : CType
-    pub judged : judgement_at (judgements_at (places t)) x.behind ≡ means (declares type)
+    pub judged : type_of (judgement_at (judgements_at (places t)) x.behind) ≡ Some type
     pub js : List Judgement
     pub long : length js ≡ x.behind
     pub front : IsFront (places t) js
@@ -115,7 +117,7 @@ module _ (tokens : List Token) (t : Tree) (derived : IsTreeOf tokens t)
   typed_name x d js front lt = by (type_at js x.owner) refl
     where
       early : type_at js x.behind ≡ Some d.type
-      early = ap type_of (sym (front_at js front.0 x.behind lt) ∙ (ap (λ q. judgement_at q x.behind) (sym front.1) ∙ d.judged))
+      early = ap type_of (sym (front_at js front.0 x.behind lt) ∙ ap (λ q. judgement_at q x.behind) (sym front.1)) ∙ d.judged
       by : (o : Option CType) → type_at js x.owner ≡ o → (if is_some o then o else type_at js x.behind) ≡ Some d.type
       by None e = early
       by (Some u) e = ap Some (d.owned u (type_later js x.owner u front e))
@@ -126,3 +128,52 @@ module _ (tokens : List Token) (t : Tree) (derived : IsTreeOf tokens t)
   -- a function that is defined has no type at its node
   no_type_of_function : (n : ℕ) (node : Node) → slice_get (nodes t) n ≡ Some node → node.label.kind ≡ kind.Function → (u : CType) → type_of (final n) ≡ Some u → ⊥
   no_type_of_function n node at is u e = let f = functions n node at is in let none : type_of (final n) ≡ None = ap type_of f.1 in let clash : None ≡ Some u = sym none ∙ e in absurd (cc clash)
+
+  -- ---- of a declaration
+
+  owner_yields : (n : ℕ) (o : Node) → slice_get (nodes t) n ≡ Some o → o.label.kind ≡ kind.InitDecl → (s : Stands (places t) n o) → Yields (Untouched (places t) s.front o) (final n)
+  unfolding judged_by
+  owner_yields n o at is s =
+      let own : final n ≡ judged_by (places t) s.front o o.label.kind = ap (λ q. judgement_at q n) s.are ∙ own_at s.front s.back (judged_by (places t) s.front o o.label.kind) n s.long in
+      subst (λ j. Yields (Untouched (places t) s.front o) j) (sym own) (subst (λ k. Yields (Untouched (places t) s.front o) (judged_by (places t) s.front o k)) (sym is) (untouched (places t) s.front o))
+    where
+      own_at : (xs ys : List Judgement) (j : Judgement) (n : ℕ) → length xs ≡ n → judgement_at (xs ++ (j ∷ ys)) n ≡ j
+      own_at [] ys j zero e = refl
+      own_at [] ys j (suc n) e = absurd (omega (arith, e))
+      own_at (x ∷ xs) ys j zero e = absurd (omega (arith, e))
+      own_at (x ∷ xs) ys j (suc n) e = own_at xs ys j n (omega (arith, e))
+
+  untouched_type : (p : Places) (js : List Judgement) (o : Node) (j : Judgement) (u : CType) (x : Name) → Yields (Untouched p js o) j → type_of j ≡ Some u → name_of p (node_at p.nodes (kid o 0)).first ≡ Some x → is_object x.entity ≡ false → type_at js (kid o 0) ≡ Some u
+  untouched_type p js o (means (initialized v ss cs)) u x y e named h = let same : v ≡ u = cc e in y x named h ∙ ap Some same
+  untouched_type p js o (means (a_type v)) u x y e named h = absurd y
+  untouched_type p js o (means (declares v)) u x y e named h = absurd y
+  untouched_type p js o _ u x y e named h = absurd (cc e)
+
+  pub of_declaration : (x : Name) → In x (places t).names → (k : KeptName tokens t derived (Anything tokens t derived) x) → x.entity ≡ function_name → Declared x
+  of_declaration x among k fun =
+      let faults : declared_faults (places t) k.whole.js x k.type k.names.low.id false function_name ≡ [] = subst (λ y. declared_faults (places t) k.whole.js x k.type k.names.low.id false y ≡ []) fun k.kept in
+      let names = front_none (name_faults (places t) k.whole.js x k.type k.names.low.id true) _ faults in
+      record {
+        type = k.type;
+        judged = ap type_of (ap (λ i. judgement_at (judgements_at (places t)) i) k.names.behind ∙ k.judged);
+        js = k.whole.js;
+        long = k.whole.long ∙ sym k.names.behind;
+        front = k.whole.front;
+        once = front_none (declared_twice (places t) x k.type (type_before (places t) k.whole.js x) x.node) _ names;
+        owned = owned;
+      }
+    where
+      first_kid : kid k.owner 0 ≡ k.names.low.id
+      first_kid =
+          let p = node_placed tokens t derived k.names.low.parent k.owner k.owner_there in
+          sym (first_only k.owner.label.text (categories_of (table_of t)) k.owner.kids k.names.low.id (subst (λ q. kids_fit q k.owner.label.text (at_places (categories_of (table_of t)) (map as_id k.owner.kids)) ≡ true) k.owner_is p.fits.kids) k.kid k.category)
+      named : name_of (places t) (node_at (nodes t) (kid k.owner 0)).first ≡ Some x
+      named = ap (λ i. name_of (places t) (node_at (nodes t) i).first) first_kid ∙ (ap (λ (m : Node). name_of (places t) m.first) (node_there tokens t derived k.names.low.id k.names.low k.names.there) ∙ (ap (λ i. name_of (places t) i) k.names.begins ∙ name_found tokens t derived x among))
+      owned : (u : CType) → type_of (final x.owner) ≡ Some u → u ≡ k.type
+      owned u e =
+          let s = stands (places t) k.names.low.parent k.owner k.owner_there in
+          let at : type_of (final k.names.low.parent) ≡ Some u = ap (λ i. type_of (final i)) (sym k.names.owner) ∙ e in
+          let early = untouched_type (places t) s.front k.owner (final k.names.low.parent) u x (owner_yields k.names.low.parent k.owner k.owner_there k.owner_is s) at named (ap is_object fun) in
+          let late : type_of (final (kid k.owner 0)) ≡ Some u = type_later s.front (kid k.owner 0) u (_, s.are) early in
+          let same : Some u ≡ Some k.type = sym late ∙ (ap (λ i. type_of (final i)) first_kid ∙ ap type_of k.judged) in
+          cc same
