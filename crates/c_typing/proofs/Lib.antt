@@ -62,4 +62,5 @@ pub mod MadeLocals
 pub mod MadeConstants
 pub mod MadeAddresses
 pub mod MadeTyped
+pub mod MadeProto
 pub mod Made
