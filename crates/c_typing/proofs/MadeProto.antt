@@ -169,3 +169,100 @@ module _ (tokens : List Token) (t : Tree) (derived : IsTreeOf tokens t) (clean_a
       let place : place_of_specs (places t) specs.node ≡ specs_place kind.Declaration (parent_of (nodes t) above.parent.id).label.kind =
       ap (λ (m : Node). specs_place m.label.kind (parent_of (nodes t) m.id).label.kind) specs_parent ∙ ap (λ q. specs_place q (parent_of (nodes t) above.parent.id).label.kind) declaration_is in
       outer_unit (parent_of (nodes t) above.parent.id).label.kind (ap is_inside_function (sym place) ∙ inside)
+
+  declaration_category : category_at t above.parent.id ≡ category.declaration
+  unfolding category_by
+  declaration_category = let c = category_is tokens t derived above.parent.id above.parent declaration_at in c.1 ∙ subst (λ q. category_by q above.parent.label.text c.0 ≡ category.declaration) (sym declaration_is) refl
+
+  top : HasParent t above.parent.id above.parent
+  top = has_parent tokens t derived above.parent.id above.parent declaration_at (λ u. clash (sym declaration_category ∙ u))
+    where
+      clash : category.declaration ≡ category.unit → ⊥
+      clash z = absurd (cc z)
+
+  top_unit : top.parent.label.kind ≡ kind.Unit
+  top_unit = ap (λ (m : Node). m.label.kind) (sym (ap (λ (m : Node). node_at (nodes t) m.parent) (node_there tokens t derived above.parent.id above.parent declaration_at) ∙ node_there tokens t derived above.parent.parent top.parent top.found)) ∙ outer_is
+
+  top_in : In top.parent (nodes t)
+  top_in = in_at top.parent (nodes t) above.parent.parent top.found
+
+  kid_in_parent : (n : ℕ) (m : Node) (p : HasParent t n m) → In n p.parent.kids
+  kid_in_parent n m p = subst (λ ks. In n ks) (sym p.among) (in_back n p.front (n ∷ p.back) (inl refl))
+
+  low_in : In k.names.low (nodes t)
+  low_in = in_at k.names.low (nodes t) k.names.low.id k.names.there
+
+  abbrev is_outer_kind : SynKind → Bool
+  is_outer_kind kind.InitDecl = true
+  is_outer_kind kind.Declaration = true
+  is_outer_kind kind.Unit = true
+  is_outer_kind q = false
+
+  -- what is larger than the declarator
+  larger_here : (y : Node) → In y (nodes t) → y.first ≤ k.names.low.first → k.names.low.id < y.id → is_outer_kind y.label.kind ≡ true
+  larger_here y h low lt = one (three_ways k.owner.id y.id) (nested t y k.owner k.names.low.id h owner_in k.kid (omega (arith, low, up)) lt)
+    where
+      up : k.names.low.first ≤ k.names.low.id
+      up = node_bounds t k.names.low low_in
+      under_owner : k.names.low.id < k.owner.id
+      under_owner = (kid_within t k.owner k.names.low.id owner_in k.kid).1
+      under_declaration : k.owner.id < above.parent.id
+      under_declaration = (kid_within t above.parent k.owner.id declaration_in (kid_in_parent k.owner.id k.owner above)).1
+      three : (top.parent.id < y.id) ⊎ ((top.parent.id ≡ y.id) ⊎ (y.id < top.parent.id)) → top.parent.id ≤ y.id → is_outer_kind y.label.kind ≡ true
+      three (inl less) wide =
+          let last = unit_last tokens t derived top.parent top_in top_unit in
+          let below = node_below t y h in
+          absurd (omega (arith, less, last, below))
+      three (inr (inl same)) wide = ap (λ (m : Node). is_outer_kind m.label.kind) (same_id tokens t derived y top.parent h top_in (sym same)) ∙ ap is_outer_kind top_unit
+      three (inr (inr more)) wide = absurd (omega (arith, wide, more))
+      two : (above.parent.id < y.id) ⊎ ((above.parent.id ≡ y.id) ⊎ (y.id < above.parent.id)) → above.parent.id ≤ y.id → is_outer_kind y.label.kind ≡ true
+      two (inl less) wide =
+          let a = up in
+          let b = under_owner in
+          let c = under_declaration in
+          three (three_ways top.parent.id y.id) (nested t y top.parent above.parent.id h top_in (kid_in_parent above.parent.id above.parent top) (omega (arith, low, a, b, c)) less)
+      two (inr (inl same)) wide = ap (λ (m : Node). is_outer_kind m.label.kind) (same_id tokens t derived y above.parent h declaration_in (sym same)) ∙ ap is_outer_kind declaration_is
+      two (inr (inr more)) wide = absurd (omega (arith, wide, more))
+      one : (k.owner.id < y.id) ⊎ ((k.owner.id ≡ y.id) ⊎ (y.id < k.owner.id)) → k.owner.id ≤ y.id → is_outer_kind y.label.kind ≡ true
+      one (inl less) wide =
+          let a = up in
+          let b = under_owner in
+          two (three_ways above.parent.id y.id) (nested t y above.parent k.owner.id h declaration_in (kid_in_parent k.owner.id k.owner above) (omega (arith, low, a, b)) less)
+      one (inr (inl same)) wide = ap (λ (m : Node). is_outer_kind m.label.kind) (same_id tokens t derived y k.owner h owner_in (sym same)) ∙ ap is_outer_kind k.owner_is
+      one (inr (inr more)) wide = absurd (omega (arith, wide, more))
+
+  no_outer_body : (q : SynKind) → is_outer_kind q ≡ true → is_body q ≡ true → ⊥
+  no_outer_body kind.InitDecl a b = true≢false (sym b)
+  no_outer_body kind.Declaration a b = true≢false (sym b)
+  no_outer_body kind.Unit a b = true≢false (sym b)
+  no_outer_body _ a b = true≢false (sym a)
+
+  no_body_here : (y : Node) → In y (nodes t) → is_body y.label.kind ≡ true → y.first ≤ k.names.low.first → k.names.low.first ≤ y.id → ⊥
+  no_body_here y h b low high = by (three_ways k.names.low.id y.id)
+    where
+      by : (k.names.low.id < y.id) ⊎ ((k.names.low.id ≡ y.id) ⊎ (y.id < k.names.low.id)) → ⊥
+      by (inl less) = no_outer_body y.label.kind (larger_here y h low less) b
+      by (inr (inl same)) = no_body y.label.kind (subst (λ (m : Node). is_declarator m.label.kind ≡ true) (same_id tokens t derived k.names.low y low_in h same) k.names.declares_it) b
+      by (inr (inr more)) =
+          let c = crossed t k.names.low y low_in h high more in
+          let at = found tokens t derived y h in
+          let p = node_placed tokens t derived y.id y at in
+          let start : y.first ≡ k.names.low.first = omega (arith, c, low) in
+          let same : Some p.lowest ≡ Some k.names.ident = sym p.found ∙ (ap (λ j. slice_get (nodes t) j) (start ∙ (k.names.begins ∙ k.names.by_node)) ∙ k.names.at) in
+          let lowest : p.lowest ≡ k.names.ident = cc same in
+          let named = named_so (category_at t y.id) p.lowest.label.kind (ap (λ (m : Node). m.label.kind) lowest ∙ k.names.is_ident) p.begins in
+          let c2 = category_is tokens t derived y.id y at in
+          true≢false (sym named ∙ (ap begins_named c2.1 ∙ body_unnamed y.label.kind y.label.text c2.0 b))
+
+  no_takes_here : (y : Node) → In y (nodes t) → y.label.kind ≡ kind.Takes → kid y 0 < k.names.low.first → k.names.low.first ≤ y.id → ⊥
+  no_takes_here y h e low high = by (three_ways k.names.low.id y.id) (kid_within t y (kid y 0) h (kid_in tokens t derived y.id y 0 (found tokens t derived y h) (subst (λ l. 0 < least_kids l) (sym e) (omega arith)))).0
+    where
+      by : (k.names.low.id < y.id) ⊎ ((k.names.low.id ≡ y.id) ⊎ (y.id < k.names.low.id)) → y.first ≤ kid y 0 → ⊥
+      by (inl less) within = true≢false (sym (larger_here y h (omega (arith, within, low)) less) ∙ ap is_outer_kind e)
+      by (inr (inl same)) within = let start : k.names.low.first ≡ y.first = ap (λ (m : Node). m.first) (same_id tokens t derived k.names.low y low_in h same) in absurd (omega (arith, start, low, within))
+      by (inr (inr more)) within = let c = crossed t k.names.low y low_in h high more in absurd (omega (arith, c, low, within))
+
+  pub proto_scope : (c : Scope) → ScopeAt t c k.names.low.first → c.owner ≡ size t.kids
+  proto_scope c (of_unit y h e g) = g ∙ unit_last tokens t derived y h e
+  proto_scope c (of_body y h b low high) = absurd (no_body_here y h b low high)
+  proto_scope c (of_parameters y h e low high) = absurd (no_takes_here y h e low high)
