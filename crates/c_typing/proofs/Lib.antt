@@ -63,4 +63,5 @@ pub mod MadeConstants
 pub mod MadeAddresses
 pub mod MadeTyped
 pub mod MadeProto
+pub mod MadeCalls
 pub mod Made

@@ -254,6 +254,9 @@ module _ (tokens : List Token) (t : Tree) (derived : IsTreeOf tokens t) (ok : Cl
   flat_none (n ∷ ns) node (inl same) e = subst (λ (m : Node). place_faults_by (places t) m m.label.kind ≡ []) same (front_none (place_faults_by (places t) n n.label.kind) (flat_map (λ (m : Node). place_faults_by (places t) m m.label.kind) ns) e)
   flat_none (n ∷ ns) node (inr h) e = flat_none ns node h (back_none (place_faults_by (places t) n n.label.kind) (flat_map (λ (m : Node). place_faults_by (places t) m m.label.kind) ns) e)
 
+  pub place_clean : (node : Node) → In node (nodes t) → place_faults_by (places t) node node.label.kind ≡ []
+  place_clean node h = flat_none (nodes t) node h ok.places_clean
+
   pub used : (n : ℕ) (node : Node) (e : Name) → slice_get (nodes t) n ≡ Some node → node.label.kind ≡ kind.Var → denoted (places t).names node.id node.label.text ≡ Some e → is_there (places t) e e.entity ≡ true
   used n node e there is d =
       let f = flat_none (nodes t) node (in_at node (nodes t) n there) ok.places_clean in

@@ -32,7 +32,7 @@ use Rattle.c_typing.proofs.MadeKept.{Low, KeptName}
 
 -- ---- what the specifiers say
 
-function_so : (s : List Node) (specs : Node) (c : Scope) (f : Bool) → declared_entity s specs c f ≡ function_name → f ≡ true
+pub function_so : (s : List Node) (specs : Node) (c : Scope) (f : Bool) → declared_entity s specs c f ≡ function_name → f ≡ true
 function_so s specs c f e = by (says s (codes "typedef") specs) f (is_file_scope s c || says s (codes "static") specs || says s (codes "extern") specs) e
   where
     by : (a b d : Bool) → (if a then typedef_name else (if b then function_name else (if d then static_object else automatic))) ≡ function_name → b ≡ true

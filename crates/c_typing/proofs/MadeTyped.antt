@@ -107,7 +107,7 @@ module _ (tokens : List Token) (t : Tree) (derived : IsTreeOf tokens t)
   type_meant (breaks_rules f fs) u e = absurd (cc e)
   type_meant waits u e = absurd (cc e)
 
-  type_later : (js : List Judgement) (k : ℕ) (u : CType) → IsFront (places t) js → type_at js k ≡ Some u → type_of (final k) ≡ Some u
+  pub type_later : (js : List Judgement) (k : ℕ) (u : CType) → IsFront (places t) js → type_at js k ≡ Some u → type_of (final k) ≡ Some u
   type_later js k u front e =
       let m = type_meant (judgement_at js k) u e in
       ap type_of (ap (λ q. judgement_at q k) front.1 ∙ meant_later js front.0 k m.0 m.1) ∙ (sym (ap type_of m.1) ∙ e)
@@ -126,7 +126,7 @@ module _ (tokens : List Token) (t : Tree) (derived : IsTreeOf tokens t)
   name_typed x d js u front lt e = let same : Some u ≡ Some d.type = sym e ∙ typed_name x d js front lt in cc same
 
   -- a function that is defined has no type at its node
-  no_type_of_function : (n : ℕ) (node : Node) → slice_get (nodes t) n ≡ Some node → node.label.kind ≡ kind.Function → (u : CType) → type_of (final n) ≡ Some u → ⊥
+  pub no_type_of_function : (n : ℕ) (node : Node) → slice_get (nodes t) n ≡ Some node → node.label.kind ≡ kind.Function → (u : CType) → type_of (final n) ≡ Some u → ⊥
   no_type_of_function n node at is u e = let f = functions n node at is in let none : type_of (final n) ≡ None = ap type_of f.1 in let clash : None ≡ Some u = sym none ∙ e in absurd (cc clash)
 
   -- ---- of a declaration
