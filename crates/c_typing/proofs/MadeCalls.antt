@@ -20,8 +20,8 @@ use Rattle.c_typing.specs.Rules.{are_functions, agree, agree_with, may_be_again,
 use Rattle.c_typing.specs.Declarators.{type_before}
 use Rattle.c_typing.specs.Expressions.{type_of_name}
 use Rattle.c_typing.specs.Shapes as category
-use Rattle.c_typing.specs.Shapes.{Category, no_category, kids_fit, at_places, categories, categories_of}
-use Rattle.c_typing.specs.ShapesOfNodes.{as_id, category_at}
+use Rattle.c_typing.specs.Shapes.{Category, no_category, kids_fit, at_places, categories, categories_of, stands_in}
+use Rattle.c_typing.specs.ShapesOfNodes.{as_id, category_at, HasParent}
 use Rattle.c_typing.specs.Typing.{judgements_at, defined_in}
 use Rattle.c_typing.proofs.ShapesLaw.{root_is_unit}
 use Rattle.c_typing.proofs.ShapesNodes.{node_placed}
@@ -29,7 +29,9 @@ use Rattle.c_typing.proofs.MadeJudged.{IsFront}
 use Rattle.c_typing.proofs.MadeNodes.{In, in_at, in_front, in_back, node_bounds, node_below, root_node, root_among, root_label, root_first, root_last}
 use Rattle.c_typing.proofs.MadePlaced.{numbered, found, node_there}
 use Rattle.c_typing.proofs.MadeAround.{both_true, and_true, equal_so, find_is, so_low}
-use Rattle.c_typing.proofs.MadeTop.{unit_kind, is_unit_category}
+use Rattle.c_typing.proofs.MadeTop.{has_parent, unit_kind, is_unit_category}
+use Rattle.c_typing.proofs.MadeWhole.{begins_named}
+use Rattle.c_typing.proofs.MadeLists.{named_category}
 use Rattle.c_typing.proofs.MadeScopes.{ScopeAt, scope_holds}
 use Rattle.c_typing.proofs.MadeDefined.{Clean, Defined, defined_at}
 use Rattle.c_typing.proofs.MadeNames.{Named, Declares, by_declarator, by_enumerator, Names}
@@ -39,7 +41,7 @@ use Rattle.c_typing.proofs.MadeDistinct.{in_file_scope}
 use Rattle.c_typing.proofs.MadeOnce.{last_there}
 use Rattle.c_typing.proofs.MadeMain.{filter_so, function_kind}
 use Rattle.c_typing.proofs.MadeObjects.{again_so, so_again, again_through, again_back, place_clean}
-use Rattle.c_typing.proofs.MadeKept.{Low, low_by, KeptName, kept_name, last_in}
+use Rattle.c_typing.proofs.MadeKept.{Low, low_by, KeptName, kept_name, last_in, declarator_so}
 use Rattle.c_typing.proofs.MadeTyped.{Declared, of_declaration, typed_name, no_type_of_function, type_later}
 use Rattle.c_typing.proofs.MadeProto.{proto_scope, function_so}
 
@@ -174,3 +176,113 @@ module _ (tokens : List Token) (t : Tree) (derived : IsTreeOf tokens t) (ok : Cl
         filed = ap (λ (c : Scope). c.owner) (h.scoped ∙ ap (λ i. scope_at (scopes_of (nodes t)) i) (sym h.numbered))
         ∙ file_owner tokens t derived x.node k.names.low inside (omega (arith, begins, up)) (λ c s. proto_scope tokens t derived (place_clean tokens t derived ok meant) x among k fun c (subst (λ i. ScopeAt t c i) (sym begins) s));
       }
+
+  -- the parent of the declarator of a definition is the function, of which it is the second kid
+  module _ (x : Name) (among : In x (places t).names) (l : Low tokens t derived x) (owner : (node_at (nodes t) x.owner).label.kind ≡ kind.Function) where
+    above : HasParent t l.low.id l.low
+    above = has_parent tokens t derived l.low.id l.low l.there (λ u. true≢false (sym (named_category tokens t derived x l) ∙ ap begins_named u))
+
+    function_is : above.parent.label.kind ≡ kind.Function
+    function_is = ap (λ (m : Node). m.label.kind) (sym (ap (λ i. node_at (nodes t) i) l.owner ∙ node_there tokens t derived l.low.parent above.parent above.found)) ∙ owner
+
+    category_low : category_at t l.low.id ≡ category.declarator
+    unfolding stands_in
+    category_low = declarator_so tokens t derived (category_at t l.low.id) (named_category tokens t derived x l)
+        (λ i. true≢false (sym (subst (λ k. stands_in category.init_declarator k ≡ true) function_is (subst (λ d. stands_in d above.parent.label.kind ≡ true) i above.stands))))
+
+    second : l.low.id ≡ kid above.parent 1
+    second =
+        let n = node_placed tokens t derived l.low.parent above.parent above.found in
+        second_only (categories_of (table_of t)) above.parent.kids l.low.id
+        (fits_three above.parent.label.text (at_places (categories_of (table_of t)) (map as_id above.parent.kids)) (subst (λ k. kids_fit k above.parent.label.text (at_places (categories_of (table_of t)) (map as_id above.parent.kids)) ≡ true) function_is n.fits.kids))
+        (subst (λ ks. In l.low.id ks) (sym above.among) (in_back l.low.id above.front (l.low.id ∷ above.back) (inl refl))) category_low
+
+    same_name : (g : Func) (d : Defined t g) (k : Kept tokens t derived (Anything tokens t derived) g d) → d.node ≡ above.parent → k.names.name ≡ x
+    same_name g d k is =
+        let at : slice_get (nodes t) l.low.id ≡ Some k.names.low = ap (λ i. slice_get (nodes t) i) (second ∙ ap (λ (m : Node). kid m 1) (sym is)) ∙ k.names.there in
+        let same : Some k.names.low ≡ Some l.low = sym at ∙ l.there in
+        let low : k.names.low ≡ l.low = cc same in
+        (names_here tokens t derived).alone k.names.name x k.names.among among (k.names.by_node ∙ (ap (λ (m : Node). m.first) low ∙ l.begins))
+
+    by_definition : FunName x
+    by_definition =
+        let g = functions l.low.parent above.parent above.found function_is in
+        let d = defined_at t l.low.parent g.0 g.1 in
+        let k = kept_of tokens t derived (Anything tokens t derived) (no_chains tokens t derived) g.0 d.0 in
+        let same : Some (d.0).node ≡ Some above.parent = sym (d.0).there ∙ (ap (λ i. slice_get (nodes t) i) d.1 ∙ above.found) in
+        let is : (d.0).node ≡ above.parent = cc same in
+        subst FunName (same_name g.0 d.0 k is) (defined_name g.0 d.0 k)
+
+  pub fun_name : (x : Name) → In x (places t).names → x.entity ≡ function_name → FunName x
+  fun_name x among e = let h = (names_here tokens t derived).each x among in by h h.how
+    where
+      is_fun : Entity → Bool
+      is_fun function_name = true
+      is_fun y = false
+      by : (h : Named (nodes t) x) → Declares (nodes t) h.before h.node x → FunName x
+      by h (by_enumerator i behind owner f g) = absurd (true≢false (ap is_fun (sym e ∙ g)))
+      by h (by_declarator i behind owner f g) =
+          let l = low_by tokens t derived x h.node h.place h.there h.numbered i behind owner in
+          which l (owner_of_function (nodes t) (node_at (nodes t) x.owner) (specs_of (nodes t) (node_at (nodes t) x.owner)) x.scope x.is_function (node_at (nodes t) x.owner).label.kind (g ∙ ap Some e))
+        where
+          which : Low tokens t derived x → (((node_at (nodes t) x.owner).label.kind ≡ kind.InitDecl) × (x.is_function ≡ true)) ⊎ ((node_at (nodes t) x.owner).label.kind ≡ kind.Function) → FunName x
+          which l (inl q) = proto_name x among h l e q.0 q.1
+          which l (inr q) = by_definition x among l q
+
+  -- ---- all declarations of a function take as many parameters
+
+  function_before : (x y : Name) → x.entity ≡ function_name → may_be_again (places t) x y ≡ true → y.entity ≡ function_name
+  function_before x y e q = at y.entity (subst (λ z. (are_functions y.entity z || is_static y.entity && is_static z && is_file_scope (places t).nodes x.scope) && not (is_initialized (places t) x && list_any (is_initialized (places t)) (earlier (places t) x)) ≡ true) e q)
+    where
+      at : (a : Entity) → (are_functions a function_name || is_static a && is_static function_name && is_file_scope (places t).nodes x.scope) && not (is_initialized (places t) x && list_any (is_initialized (places t)) (earlier (places t) x)) ≡ true → a ≡ function_name
+      at function_name h = refl
+      at static_object h = absurd (true≢false (sym h))
+      at _ h = absurd (true≢false (sym h))
+
+  pub record First (x : Name) (n : ℕ) : Type 0 where
+    pub name : Name
+    pub among : In name (places t).names
+    pub fun : name.entity ≡ function_name
+    pub again : is_again name x ≡ true
+    pub alone : earlier (places t) name ≡ []
+    pub declared : DeclaredName name
+    pub takes : TakesSo declared.type n
+
+  step_back : (x y : Name) → x.entity ≡ function_name → In y (places t).names → y.behind < x.behind → last_or None (earlier (places t) x) ≡ Some y → (d : DeclaredName x) (n : ℕ) → TakesSo d.type n → (y.entity ≡ function_name) × ((c : DeclaredName y) → TakesSo c.type n)
+  step_back x y e among lt last d n takes = (fun, typed)
+    where
+      at : broken_if (is_refused (places t) x d.type (type_before (places t) d.js x) (Some y)) 3 x.node ≡ []
+      at = subst (λ q. broken_if (is_refused (places t) x d.type (type_before (places t) d.js x) q) 3 x.node ≡ []) last d.once
+      none : (b : Bool) → broken_if (not b) 3 x.node ≡ [] → b ≡ true
+      none true g = refl
+      none false g = absurd (cc g)
+      both : (may_be_again (places t) x y ≡ true) × (agree_with d.type (type_before (places t) d.js x) ≡ true)
+      both = both_true (may_be_again (places t) x y) (agree_with d.type (type_before (places t) d.js x)) (none (may_be_again (places t) x y && agree_with d.type (type_before (places t) d.js x)) at)
+      fun : y.entity ≡ function_name
+      fun = function_before x y e both.0
+      typed : (c : DeclaredName y) → TakesSo c.type n
+      typed c =
+          let long = d.long in
+          let before : type_before (places t) d.js x ≡ Some c.type = ap (λ o. option_and_then (type_of_name d.js) o) last ∙ typed_name tokens t derived functions y c d.js d.front (omega (arith, long, lt)) in
+          takes_agree d.type c.type n takes (subst (λ o. agree_with d.type o ≡ true) before both.1)
+
+  first_by : (k : ℕ) (x : Name) → x.behind < k → In x (places t).names → x.entity ≡ function_name → (d : DeclaredName x) (n : ℕ) → TakesSo d.type n → First x n
+  first_by zero x lt h e d n takes = absurd (omega (arith, lt))
+  first_by (suc k) x lt h e d n takes = by (earlier (places t) x) refl (λ y l c w i s f. first_by k y (omega (arith, lt, l)) i f c n w)
+    where
+      less : (a b : ℕ) → nat_lt a b ≡ true → a < b
+      less a b q = grind arith
+      by : (ys : List Name) → earlier (places t) x ≡ ys → ((y : Name) → y.behind < x.behind → (c : DeclaredName y) → TakesSo c.type n → In y (places t).names → is_again y x ≡ true → y.entity ≡ function_name → First y n) → First x n
+      by [] g more = record { name = x; among = h; fun = e; again = so_again x x refl refl; alone = g; declared = d; takes = takes }
+      by (z ∷ zs) g more = let l = last_there (earlier (places t) x) z None (subst (λ q. In z q) (sym g) (inl refl)) in at l.0 l.1 (last_in (earlier (places t) x) None l.0 l.1)
+        where
+          at : (y : Name) → last_or None (earlier (places t) x) ≡ Some y → In y (earlier (places t) x) ⊎ (None ≡ Some y) → First x n
+          at y l (inr q) = absurd (cc q)
+          at y l (inl q) =
+              let f = filter_so (λ (a : Name). is_again a x && nat_lt a.behind x.behind) (places t).names y q in
+              let b = both_true (is_again y x) (nat_lt y.behind x.behind) f.1 in
+              let lt2 = less y.behind x.behind b.1 in
+              let s = step_back x y e f.0 lt2 l d n takes in
+              let c = (fun_name y f.0 s.0).declared in
+              let m = more y lt2 c (s.1 c) f.0 b.0 s.0 in
+              record { name = m.name; among = m.among; fun = m.fun; again = again_through m.name y x m.again b.0; alone = m.alone; declared = m.declared; takes = m.takes }

@@ -61,7 +61,7 @@ module _ (tokens : List Token) (t : Tree) (derived : IsTreeOf tokens t) where
     pub owner : node_at (nodes t) e.owner ≡ param
     pub parent : node_at (nodes t) param.parent ≡ list
 
-  named_category : (e : Name) (l : Low tokens t derived e) → begins_named (category_at t l.low.id) ≡ true
+  pub named_category : (e : Name) (l : Low tokens t derived e) → begins_named (category_at t l.low.id) ≡ true
   named_category e l =
       let p = node_placed tokens t derived l.low.id l.low l.there in
       let same : Some p.lowest ≡ Some l.ident = sym p.found ∙ (ap (λ i. slice_get (nodes t) i) (l.begins ∙ l.by_node) ∙ l.at) in
