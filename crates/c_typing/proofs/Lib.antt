@@ -64,4 +64,5 @@ pub mod MadeAddresses
 pub mod MadeTyped
 pub mod MadeProto
 pub mod MadeCalls
+pub mod MadeCalled
 pub mod Made

@@ -145,7 +145,7 @@ module _ (tokens : List Token) (t : Tree) (derived : IsTreeOf tokens t) (ok : Cl
 
   -- ---- of a definition
 
-  of_definition : (g : Func) (d : Defined t g) (k : Kept tokens t derived (Anything tokens t derived) g d) → DeclaredName k.names.name
+  unfoldable pub of_definition : (g : Func) (d : Defined t g) (k : Kept tokens t derived (Anything tokens t derived) g d) → DeclaredName k.names.name
   of_definition g d k =
       let low : k.names.low.id ≡ kid d.node 1 = numbered tokens t derived (kid d.node 1) k.names.low k.names.there in
       record {
@@ -266,7 +266,7 @@ module _ (tokens : List Token) (t : Tree) (derived : IsTreeOf tokens t) (ok : Cl
           let before : type_before (places t) d.js x ≡ Some c.type = ap (λ o. option_and_then (type_of_name d.js) o) last ∙ typed_name tokens t derived functions y c d.js d.front (omega (arith, long, lt)) in
           takes_agree d.type c.type n takes (subst (λ o. agree_with d.type o ≡ true) before both.1)
 
-  first_by : (k : ℕ) (x : Name) → x.behind < k → In x (places t).names → x.entity ≡ function_name → (d : DeclaredName x) (n : ℕ) → TakesSo d.type n → First x n
+  pub first_by : (k : ℕ) (x : Name) → x.behind < k → In x (places t).names → x.entity ≡ function_name → (d : DeclaredName x) (n : ℕ) → TakesSo d.type n → First x n
   first_by zero x lt h e d n takes = absurd (omega (arith, lt))
   first_by (suc k) x lt h e d n takes = by (earlier (places t) x) refl (λ y l c w i s f. first_by k y (omega (arith, lt, l)) i f c n w)
     where

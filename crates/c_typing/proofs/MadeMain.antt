@@ -53,7 +53,7 @@ position_is {A} p xs i e = by (below xs i e)
         let h = (position-Some p xs i x.0 e).1 in
         (x.0, x.1, subst (λ y. p y ≡ true) x.2 h)
 
-some_is : {A : Type 0} (o : Option A) → is_some o ≡ true → (a : A) × (o ≡ Some a)
+pub some_is : {A : Type 0} (o : Option A) → is_some o ≡ true → (a : A) × (o ≡ Some a)
 some_is None e = absurd (true≢false (sym e))
 some_is (Some a) e = (a, refl)
 
