@@ -12,7 +12,7 @@ use Rattle.c_types.specs.declared.tree.Func.{Func}
 use Rattle.c_types.specs.declared.tree.Unit.{Unit as Whole}
 use Rattle.c_types.specs.Every.{InEveryExpr, InEveryStmt}
 use Rattle.c_types.specs.Placing.{data_size}
-use Rattle.c_types.specs.WellMade.{function_names, IsMain, NamesObject, NamesLocal, UnsetsLocal, JumpsEnd, LabelsDiffer, HasOneOther, IsAlignment, AddressFits, InEveryObject, InEveryFunction, InEveryCell}
+use Rattle.c_types.specs.WellMade.{function_names, IsMain, NamesObject, NamesLocal, UnsetsLocal, CallsFunction, JumpsEnd, LabelsDiffer, HasOneOther, IsAlignment, AddressFits, InEveryObject, InEveryFunction, InEveryCell}
 use Rattle.c_typing.specs.Types.{CType}
 use Rattle.c_typing.specs.Places.{Node, nodes, is_whole}
 use Rattle.c_typing.specs.Names.{places}
@@ -31,6 +31,7 @@ use Rattle.c_typing.proofs.MadeMain.{main}
 use Rattle.c_typing.proofs.MadeNamed.{objects_named}
 use Rattle.c_typing.proofs.MadeLocals.{locals_named, locals_unset}
 use Rattle.c_typing.proofs.MadeAddresses.{addresses}
+use Rattle.c_typing.proofs.MadeCalled.{functions_called}
 
 -- what is asked of the meanings of a tree without faults: functions that are defined and whole declarators have one
 pub record IsMeaningful (t : Tree) : Type 0 where
@@ -42,6 +43,7 @@ pub record IsMadeSoFar (u : Whole) : Type 0 where
   pub objects_named : InEveryExpr u (λ f. NamesObject u)
   pub locals_named : InEveryExpr u NamesLocal
   pub locals_unset : InEveryStmt u UnsetsLocal
+  pub functions_called : InEveryExpr u (λ f. CallsFunction u)
   pub few_parameters : InEveryFunction u (λ f. f.params ≤ 8)
   pub parameters_are_locals : InEveryFunction u (λ f. f.params ≤ f.locals)
   pub distinct : IsDistinct bytes_eq (function_names u)
@@ -60,6 +62,7 @@ whole_made tokens t derived ok meant = record {
   objects_named = objects_named tokens t derived ok meant.declarators;
   locals_named = locals_named tokens t derived;
   locals_unset = locals_unset tokens t derived;
+  functions_called = functions_called tokens t derived ok meant.functions meant.declarators;
   few_parameters = few_parameters tokens t derived ok;
   parameters_are_locals = parameters_are_locals t;
   distinct = distinct tokens t derived;
