@@ -23,7 +23,7 @@ use Rattle.c_typing.specs.Conversions.{valued, value_of, result, Operator, opera
 use Rattle.c_typing.specs.Rules.{bad_conversion, not_constant_for, is_constant_for, out_of_range, broken_if, bad_initializer}
 use Rattle.c_typing.specs.Constants.{operated, chosen_constant, binary_constant, cast_constant, part_at, address_constant}
 use Rattle.c_typing.specs.Expressions.{literal, expression, type_of_name, word_of_enumerator, field_of, no_field, element_typing, variable_by, variable, prefix_step, postfix_step, subscript_constant, subscript, called, call_by, member_typing, dot, arrow, address_operator, dereference, sign_typing, sign_operator, not_operator, unary, measured_type, cast, operator_with, binary_by, binary_operator, conditional, comma, assignment, compound_by, assign}
-use Rattle.c_typing.specs.Initializers.{string, constant_cell, text_cells, moved, Part, part, scalar_part, value_part, braced_part, part_by, part_for, part_of, part_offset, kid_part, is_too_long, is_static_name, init_around, count_in, braces_for, braces, initialized_object, init_by, init_declarator, is_object, bare_code}
+use Rattle.c_typing.specs.Initializers.{braces_by, target, string, constant_cell, text_cells, moved, Part, part, scalar_part, value_part, braced_part, part_by, part_for, part_of, part_offset, kid_part, is_too_long, is_static_name, init_around, count_in, braces_for, braces, initialized_object, init_by, init_declarator, is_object, bare_code}
 use Rattle.c_typing.specs.Shapes as category
 use Rattle.c_typing.specs.ShapesOfNodes.{category_at}
 use Rattle.c_typing.specs.Typing.{in_parentheses, choice_node, judged_by, judgements_at, data_of, object_of, cells_in, declarations_of, literal_object, literals_of, unit_in}
@@ -341,7 +341,11 @@ module _ (tokens : List Token) (t : Tree) (derived : IsTreeOf tokens t) (ok : Cl
 
     braces_row : Yields (Holds (length js)) (braces (places t) js node)
     unfolding braces
-    braces_row = search (yields_if, yields_given, braces_for_row, nothing)
+    braces_row = by (target (places t) js node.id)
+      where
+        by : (o : Option CType) → Yields (Holds (length js)) (braces_by (places t) js node o)
+        by None = nothing 0
+        by (Some u) = braces_for_row u
 
     object_row : (n : ℕ) (e : Name) (u : CType) (q : Part) → PartGood q → Yields (Holds (length js)) (initialized_object (places t) js n e u q)
     unfolding initialized_object

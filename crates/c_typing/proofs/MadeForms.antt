@@ -6,11 +6,11 @@ use Rattle.c_syntax.specs.declared.kind.SynKind.TheVariants as kind
 use Rattle.c_types.specs.declared.tree.Cell.{Cell}
 use Rattle.c_typing.specs.Types.{CType, Field}
 use Rattle.c_typing.specs.Places.{Node, kid}
-use Rattle.c_typing.specs.Names.{Places}
+use Rattle.c_typing.specs.Names.{Places, Name}
 use Rattle.c_typing.specs.Judgements.{Meaning, a_type, a_struct, steps, expresses, initial, initialized, performs, labels, defines, Judgement, Fault, PlacedStep, Typing, layouts}
 use Rattle.c_typing.specs.Expressions.{expression}
 use Rattle.c_typing.specs.Declarators.{enum_specifier, spec_word, typedef_type, specs, struct_specifier, struct_body, layout, enumerator_node, enumerator_after, enumerator_value, Built, built, whole_type, declarator, pointer_declarator, absent_length_step, length_step, length_faults, array_declarator, function_declarator, member, parameter_node, type_name}
-use Rattle.c_typing.specs.Initializers.{braces, braces_for}
+use Rattle.c_typing.specs.Initializers.{braces, braces_by, braces_for, target}
 use Rattle.c_typing.specs.Statements.{case_label, default_label}
 use Rattle.c_typing.specs.Typing.{unit_node, in_parentheses, judged_by}
 use Rattle.c_typing.proofs.MadeJudged.{Yields, yields_verdict, yields_besides, yields_given}
@@ -68,9 +68,14 @@ module _ (P : Meaning → Type 0) (free : (m : Meaning) → is_active m ≡ fals
   unfolding specs
   specs_row = search (yields_besides, yields_given, yields_verdict, free)
 
+  typedef_row : (e : Option Name) → Yields P (typedef_type js node e)
+  unfolding typedef_type
+  typedef_row None = search (yields_verdict, free)
+  typedef_row (Some e) = search (yields_if, yields_given, yields_verdict, free)
+
   word_row : Yields P (spec_word p js node)
-  unfolding spec_word typedef_type
-  word_row = search (yields_if, yields_given, free)
+  unfolding spec_word
+  word_row = search (yields_if, typedef_row, free)
 
   member_row : Yields P (member p js node)
   unfolding member
@@ -184,9 +189,11 @@ braces_for_row P each p js node t = search (yields_besides, yields_given, yields
 
 pub braces_row : (P : Meaning → Type 0) → ((n : ℕ) (cs : List Cell) → P (initial n cs)) → (p : Places) (js : List Judgement) (node : Node) → Yields P (braces p js node)
 unfolding braces
-braces_row P each p js node =
-    let by = braces_for_row P each p js node in
-    search (yields_if, yields_given, by, each)
+braces_row P each p js node = by (target p js node.id)
+  where
+    by : (o : Option CType) → Yields P (braces_by p js node o)
+    by None = each 0 []
+    by (Some t) = braces_for_row P each p js node t
 
 -- structs, with their bodies or without
 pub struct_row : (p : Places) (js : List Judgement) (node : Node) (P : Meaning → Type 0) → ((fields : List (List Field)) (k : ℕ) → P (a_struct (layout (layouts js) k (flat_map (λ fs. fs) fields)))) → ((t : CType) → P (a_type t)) → Yields P (struct_specifier p js node)
