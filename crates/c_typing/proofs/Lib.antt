@@ -66,3 +66,4 @@ pub mod MadeProto
 pub mod MadeCalls
 pub mod MadeCalled
 pub mod Made
+pub mod RowsWords
