@@ -67,3 +67,4 @@ pub mod MadeCalls
 pub mod MadeCalled
 pub mod Made
 pub mod RowsWords
+pub mod MadeMeant

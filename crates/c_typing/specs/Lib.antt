@@ -12,3 +12,4 @@ pub mod Statements
 pub mod Typing
 pub mod Shapes
 pub mod ShapesOfNodes
+pub mod Meant
