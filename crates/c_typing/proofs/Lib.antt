@@ -116,3 +116,5 @@ pub mod MadeProto
 pub mod MadeCalls
 pub mod MadeCalled
 pub mod Made
+pub mod RowsWords
+pub mod MadeMeant

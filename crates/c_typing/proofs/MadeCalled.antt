@@ -1,25 +1,22 @@
 -- The function that a name calls is there, with its parameters.
-use Rattle.std.proofs.Common.{◌≡◌, ◌⊎◌, inl, inr, ℕ, zero, suc, ◌+◌, ◌<◌, ◌≤◌, Bool, true, false, ◌||◌, ◌&&◌, not, cond, List, [], ◌∷◌, ◌++◌, length, map, Option, Some, None, refl, sym, ap, ap₂, ◌∙◌, subst, arith, true≢false, unwrap_or}
-use Rattle.std.specs.Prelude.{slice_get, if◌then◌else◌, filter, filter_map, position, nat_lt, ◌==◌}
+use Rattle.std.proofs.Common.{◌≡◌, ◌⊎◌, inl, inr, ℕ, zero, suc, ◌<◌, Bool, true, false, ◌||◌, ◌&&◌, cond, List, [], ◌∷◌, length, Some, None, refl, sym, ap, ◌∙◌, subst, arith, true≢false, unwrap_or}
+use Rattle.std.specs.Prelude.{slice_get, if◌then◌else◌, filter, filter_map, nat_lt}
 use Rattle.std.specs.List.{AllByRecursion, cons_option}
 use Rattle.std.specs.Option.{is_some}
 use Rattle.std.specs.Str.{bytes_eq}
 use Rattle.std.proofs.lemmas.Slice.Eq.{bytes_eq-Decides}
 use Rattle.c_lexer.specs.declared.token.Token.{Token}
-use Rattle.c_syntax.specs.declared.kind.SynKind.{SynKind}
 use Rattle.c_syntax.specs.declared.kind.SynKind.TheVariants as kind
 use Rattle.c_syntax.specs.Trees.{Tree}
-use Rattle.c_syntax.specs.Tables.{size}
 use Rattle.c_grammar.specs.Derivation.{IsTreeOf}
 use Rattle.c_types.specs.declared.tree.Expr.{Expr}
-use Rattle.c_types.specs.declared.tree.Stmt.{Stmt}
 use Rattle.c_types.specs.declared.tree.Func.{Func}
-use Rattle.c_types.specs.Forms.{ExprRow, const, address, local, set_local, load, store, binary, convert, both, either, choose, seq, call, get_char, put_char, copy, exprs, expr_row, length_of}
+use Rattle.c_types.specs.Forms.{call, exprs, expr_row}
 use Rattle.c_types.specs.Every.{EveryExpr, EveryStmt, InEveryExpr, own_exprs}
 use Rattle.c_types.specs.WellMade.{CallsFunction}
 use Rattle.c_typing.specs.Types.{CType, CTypes, function, types_of, listed}
 use Rattle.c_typing.specs.Places.{Node, nodes, is_whole, is_function, in_scope}
-use Rattle.c_typing.specs.Names.{Entity, function_name, Places, places, Name, denoted, is_again, earlier, function_number, function_text}
+use Rattle.c_typing.specs.Names.{Entity, function_name, places, Name, denoted, is_again, earlier, function_number, function_text}
 use Rattle.c_typing.specs.Judgements.{Callee, reads_input, writes_output, calls, means, declares, defines, Judgement, judgement_at, type_of}
 use Rattle.c_typing.specs.Rules.{is_getchar, is_putchar}
 use Rattle.c_typing.specs.Expressions.{callee_of, type_of_name}
@@ -28,20 +25,20 @@ use Rattle.c_typing.specs.ShapesOfNodes.{category_at}
 use Rattle.c_typing.specs.Typing.{judgements_at, defined_in, unit_in, is_there}
 use Rattle.c_typing.proofs.MadeJudged.{IsFront}
 use Rattle.c_typing.proofs.MadeNodes.{In, in_at}
-use Rattle.c_typing.proofs.MadePlaced.{numbered, found}
+use Rattle.c_typing.proofs.MadePlaced.{numbered}
 use Rattle.c_typing.proofs.MadeAround.{both_true, and_true}
 use Rattle.c_typing.proofs.MadeDefined.{Clean, Defined, defined_at}
-use Rattle.c_typing.proofs.MadeNames.{Named, Declares, by_declarator, by_enumerator, Names}
-use Rattle.c_typing.proofs.MadeFunctionNames.{Kept, kept_of, Anything, no_chains, names_here}
+use Rattle.c_typing.proofs.MadeNames.{Named, Declares, by_declarator, by_enumerator}
+use Rattle.c_typing.proofs.MadeFunctionNames.{kept_of, Anything, no_chains, names_here}
 use Rattle.c_typing.proofs.MadeTexts.{text_is}
 use Rattle.c_typing.proofs.MadeDistinct.{same_id, three_ways}
 use Rattle.c_typing.proofs.MadeOnce.{filter_in}
 use Rattle.c_typing.proofs.MadeChains.{Chain, chains}
-use Rattle.c_typing.proofs.MadeMain.{position_is, filter_so, function_kind, some_is, Takes, takes_of}
+use Rattle.c_typing.proofs.MadeMain.{position_is, function_kind, some_is, takes_of}
 use Rattle.c_typing.proofs.MadeObjects.{denoted_in, again_back, again_through, so_again, used}
 use Rattle.c_typing.proofs.MadeKept.{Low, low_by}
 use Rattle.c_typing.proofs.MadeTyped.{Declared, name_typed}
-use Rattle.c_typing.proofs.MadeCalls.{TakesSo, FunName, fun_name, First, first_by, of_definition}
+use Rattle.c_typing.proofs.MadeCalls.{TakesSo, FunName, fun_name, first_by, of_definition}
 use Rattle.c_typing.proofs.MadeEvery.{every_stmt}
 use Rattle.c_typing.proofs.MadeForming.{is_free}
 use Rattle.c_typing.proofs.MadeFunctions.{functions_good}
@@ -66,9 +63,11 @@ aligned (n ∷ ns) (j ∷ js) each none i x e = by (is_function n.label.kind) re
   where
     Result : ℕ → Type 0
     Result i2 = (k : ℕ) × (g : Func) × (slice_get (n ∷ ns) k ≡ Some x) × (judgement_at (j ∷ js) k ≡ means (defines g)) × (slice_get (filter_map defined_in (j ∷ js)) i2 ≡ Some g)
+
     skipped : (q : Judgement) → ((f : Func) → q ≡ means (defines f) → ⊥) → defined_in q ≡ None
     skipped (means (defines f)) h = absurd (h f refl)
     skipped _ h = refl
+
     by : (b : Bool) → is_function n.label.kind ≡ b → (i2 : ℕ) → slice_get (cond b (n ∷ filter (λ (m : Node). is_function m.label.kind) ns) (filter (λ (m : Node). is_function m.label.kind) ns)) i2 ≡ Some x
         → ((i3 : ℕ) → slice_get (filter (λ (m : Node). is_function m.label.kind) ns) i3 ≡ Some x → (k : ℕ) × (g : Func) × (slice_get ns k ≡ Some x) × (judgement_at js k ≡ means (defines g)) × (slice_get (filter_map defined_in js) i3 ≡ Some g))
         → Result i2
@@ -105,6 +104,7 @@ module _ (tokens : List Token) (t : Tree) (derived : IsTreeOf tokens t) (ok : Cl
       is_fun : Entity → Bool
       is_fun function_name = true
       is_fun y = false
+
       by : (h : Named (nodes t) x) → Declares (nodes t) h.before h.node x → Low tokens t derived x
       by h (by_enumerator i behind owner f g) = absurd (true≢false (ap is_fun (sym e ∙ g)))
       by h (by_declarator i behind owner f g) = low_by tokens t derived x h.node h.place h.there h.numbered i behind owner

@@ -1,47 +1,43 @@
 -- Each call names a function that is there, with as many arguments as it has parameters.
-use Rattle.std.proofs.Common.{◌≡◌, ◌⊎◌, inl, inr, ℕ, zero, suc, ◌+◌, ◌<◌, ◌≤◌, Bool, true, false, ◌||◌, ◌&&◌, not, cond, List, [], ◌∷◌, ◌++◌, length, map, Option, Some, None, refl, sym, ap, ap₂, ◌∙◌, subst, arith, true≢false, unwrap_or}
-use Rattle.std.specs.Prelude.{slice_get, get_or, if◌then◌else◌, codes, find, filter, filter_map, nat_lt, nat_le, option_and_then, ◌==◌}
-use Rattle.std.specs.List.{AllByRecursion, list_any, last_or}
-use Rattle.std.specs.Option.{is_some}
-use Rattle.std.specs.Str.{bytes_eq}
-use Rattle.std.proofs.lemmas.Slice.Eq.{bytes_eq-Decides}
+use Rattle.std.proofs.Common.{◌≡◌, ◌⊎◌, inl, inr, ℕ, zero, suc, ◌<◌, ◌≤◌, Bool, true, false, ◌||◌, ◌&&◌, not, List, [], ◌∷◌, length, map, Option, Some, None, refl, sym, ap, ◌∙◌, subst, arith, true≢false, unwrap_or}
+use Rattle.std.specs.Prelude.{slice_get, get_or, nat_lt, nat_le, option_and_then}
+use Rattle.std.specs.List.{list_any, last_or}
 use Rattle.c_lexer.specs.declared.token.Token.{Token}
 use Rattle.c_syntax.specs.declared.kind.SynKind.{SynKind}
 use Rattle.c_syntax.specs.declared.kind.SynKind.TheVariants as kind
-use Rattle.c_syntax.specs.Trees.{Tree, one}
+use Rattle.c_syntax.specs.Trees.{Tree}
 use Rattle.c_syntax.specs.Tables.{size, table_of}
 use Rattle.c_grammar.specs.Derivation.{IsTreeOf}
 use Rattle.c_types.specs.declared.tree.Func.{Func}
-use Rattle.c_typing.specs.Types.{CType, CTypes, void, integer, pointer, array, unsized, struct, function, no_types, a_type, same, same_all, types_of, listed, is_array, element_of}
+use Rattle.c_typing.specs.Types.{CType, CTypes, void, integer, pointer, array, unsized, struct, function, no_types, a_type, same, same_all, listed}
 use Rattle.c_typing.specs.Places.{Node, nodes, node_at, kid, is_whole, is_file_scope, Scope, in_scope, scope_by, scopes_from, scopes_of, scope_at, no_scope, specs_of}
-use Rattle.c_typing.specs.Names.{Entity, typedef_name, function_name, static_object, automatic, parameter, enumerator, Places, places, Name, is_static, is_again, earlier, is_initialized, declared_entity, entity_by}
-use Rattle.c_typing.specs.Judgements.{means, declares, defines, Judgement, judgement_at, type_of, type_at}
-use Rattle.c_typing.specs.Rules.{are_functions, agree, agree_with, may_be_again, is_refused, declared_twice, broken_if}
+use Rattle.c_typing.specs.Names.{Entity, function_name, static_object, places, Name, is_static, is_again, earlier, is_initialized, declared_entity, entity_by}
+use Rattle.c_typing.specs.Judgements.{means, declares, defines, judgement_at, type_of}
+use Rattle.c_typing.specs.Rules.{are_functions, agree, agree_with, may_be_again, is_refused, broken_if}
 use Rattle.c_typing.specs.Declarators.{type_before}
 use Rattle.c_typing.specs.Expressions.{type_of_name}
 use Rattle.c_typing.specs.Shapes as category
 use Rattle.c_typing.specs.Shapes.{Category, no_category, kids_fit, at_places, categories, categories_of, stands_in}
 use Rattle.c_typing.specs.ShapesOfNodes.{as_id, category_at, HasParent}
-use Rattle.c_typing.specs.Typing.{judgements_at, defined_in}
+use Rattle.c_typing.specs.Typing.{judgements_at}
 use Rattle.c_typing.proofs.ShapesLaw.{root_is_unit}
 use Rattle.c_typing.proofs.ShapesNodes.{node_placed}
-use Rattle.c_typing.proofs.MadeJudged.{IsFront}
 use Rattle.c_typing.proofs.MadeNodes.{In, in_at, in_front, in_back, node_bounds, node_below, root_node, root_among, root_label, root_first, root_last}
-use Rattle.c_typing.proofs.MadePlaced.{numbered, found, node_there}
-use Rattle.c_typing.proofs.MadeAround.{both_true, and_true, equal_so, find_is, so_low}
+use Rattle.c_typing.proofs.MadePlaced.{numbered, node_there}
+use Rattle.c_typing.proofs.MadeAround.{both_true, and_true, find_is, so_low}
 use Rattle.c_typing.proofs.MadeTop.{has_parent, unit_kind, is_unit_category}
 use Rattle.c_typing.proofs.MadeWhole.{begins_named}
 use Rattle.c_typing.proofs.MadeLists.{named_category}
 use Rattle.c_typing.proofs.MadeScopes.{ScopeAt, scope_holds}
 use Rattle.c_typing.proofs.MadeDefined.{Clean, Defined, defined_at}
-use Rattle.c_typing.proofs.MadeNames.{Named, Declares, by_declarator, by_enumerator, Names}
-use Rattle.c_typing.proofs.MadeFunctionNames.{FunctionName, Kept, kept_of, find_one, Anything, no_chains, names_here}
+use Rattle.c_typing.proofs.MadeNames.{Named, Declares, by_declarator, by_enumerator}
+use Rattle.c_typing.proofs.MadeFunctionNames.{Kept, kept_of, find_one, Anything, no_chains, names_here}
 use Rattle.c_typing.proofs.MadeTexts.{faultless}
 use Rattle.c_typing.proofs.MadeDistinct.{in_file_scope}
 use Rattle.c_typing.proofs.MadeOnce.{last_there}
-use Rattle.c_typing.proofs.MadeMain.{filter_so, function_kind}
-use Rattle.c_typing.proofs.MadeObjects.{again_so, so_again, again_through, again_back, place_clean}
-use Rattle.c_typing.proofs.MadeKept.{Low, low_by, KeptName, kept_name, last_in, declarator_so}
+use Rattle.c_typing.proofs.MadeMain.{filter_so}
+use Rattle.c_typing.proofs.MadeObjects.{so_again, again_through, place_clean}
+use Rattle.c_typing.proofs.MadeKept.{Low, low_by, kept_name, last_in, declarator_so}
 use Rattle.c_typing.proofs.MadeTyped.{Declared, of_declaration, typed_name, no_type_of_function, type_later}
 use Rattle.c_typing.proofs.MadeProto.{proto_scope, function_so}
 
@@ -174,7 +170,7 @@ module _ (tokens : List Token) (t : Tree) (derived : IsTreeOf tokens t) (ok : Cl
       record {
         declared = of_declaration tokens t derived functions x among k e;
         filed = ap (λ (c : Scope). c.owner) (h.scoped ∙ ap (λ i. scope_at (scopes_of (nodes t)) i) (sym h.numbered))
-        ∙ file_owner tokens t derived x.node k.names.low inside (omega (arith, begins, up)) (λ c s. proto_scope tokens t derived (place_clean tokens t derived ok meant) x among k fun c (subst (λ i. ScopeAt t c i) (sym begins) s));
+            ∙ file_owner tokens t derived x.node k.names.low inside (omega (arith, begins, up)) (λ c s. proto_scope tokens t derived (place_clean tokens t derived ok meant) x among k fun c (subst (λ i. ScopeAt t c i) (sym begins) s));
       }
 
   -- the parent of the declarator of a definition is the function, of which it is the second kid
@@ -219,6 +215,7 @@ module _ (tokens : List Token) (t : Tree) (derived : IsTreeOf tokens t) (ok : Cl
       is_fun : Entity → Bool
       is_fun function_name = true
       is_fun y = false
+
       by : (h : Named (nodes t) x) → Declares (nodes t) h.before h.node x → FunName x
       by h (by_enumerator i behind owner f g) = absurd (true≢false (ap is_fun (sym e ∙ g)))
       by h (by_declarator i behind owner f g) =
@@ -253,13 +250,17 @@ module _ (tokens : List Token) (t : Tree) (derived : IsTreeOf tokens t) (ok : Cl
     where
       at : broken_if (is_refused (places t) x d.type (type_before (places t) d.js x) (Some y)) 3 x.node ≡ []
       at = subst (λ q. broken_if (is_refused (places t) x d.type (type_before (places t) d.js x) q) 3 x.node ≡ []) last d.once
+
       none : (b : Bool) → broken_if (not b) 3 x.node ≡ [] → b ≡ true
       none true g = refl
       none false g = absurd (cc g)
+
       both : (may_be_again (places t) x y ≡ true) × (agree_with d.type (type_before (places t) d.js x) ≡ true)
       both = both_true (may_be_again (places t) x y) (agree_with d.type (type_before (places t) d.js x)) (none (may_be_again (places t) x y && agree_with d.type (type_before (places t) d.js x)) at)
+
       fun : y.entity ≡ function_name
       fun = function_before x y e both.0
+
       typed : (c : DeclaredName y) → TakesSo c.type n
       typed c =
           let long = d.long in
@@ -272,6 +273,7 @@ module _ (tokens : List Token) (t : Tree) (derived : IsTreeOf tokens t) (ok : Cl
     where
       less : (a b : ℕ) → nat_lt a b ≡ true → a < b
       less a b q = grind arith
+
       by : (ys : List Name) → earlier (places t) x ≡ ys → ((y : Name) → y.behind < x.behind → (c : DeclaredName y) → TakesSo c.type n → In y (places t).names → is_again y x ≡ true → y.entity ≡ function_name → First y n) → First x n
       by [] g more = record { name = x; among = h; fun = e; again = so_again x x refl refl; alone = g; declared = d; takes = takes }
       by (z ∷ zs) g more = let l = last_there (earlier (places t) x) z None (subst (λ q. In z q) (sym g) (inl refl)) in at l.0 l.1 (last_in (earlier (places t) x) None l.0 l.1)

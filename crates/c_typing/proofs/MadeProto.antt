@@ -1,7 +1,6 @@
 -- A declaration of a function stands in the scope of the unit.
-use Rattle.std.proofs.Common.{◌≡◌, ◌⊎◌, inl, inr, ℕ, zero, suc, ◌+◌, ◌<◌, ◌≤◌, Bool, true, false, ◌||◌, ◌&&◌, not, cond, List, [], ◌∷◌, ◌++◌, length, map, Option, Some, None, refl, sym, ap, ◌∙◌, subst, arith, true≢false, unwrap_or}
-use Rattle.std.specs.Prelude.{slice_get, get_or, if◌then◌else◌, codes, find, flat_map, nat_le, ◌==◌}
-use Rattle.std.specs.List.{list_any}
+use Rattle.std.proofs.Common.{◌≡◌, ◌⊎◌, inl, inr, ℕ, ◌<◌, ◌≤◌, Bool, true, false, ◌||◌, ◌&&◌, List, [], ◌∷◌, map, Some, refl, sym, ap, ◌∙◌, subst, arith, true≢false}
+use Rattle.std.specs.Prelude.{slice_get, if◌then◌else◌, codes, ◌==◌}
 use Rattle.c_lexer.specs.declared.token.Token.{Token}
 use Rattle.c_syntax.specs.declared.kind.SynKind.{SynKind}
 use Rattle.c_syntax.specs.declared.kind.SynKind.TheVariants as kind
@@ -9,9 +8,8 @@ use Rattle.c_syntax.specs.Trees.{Tree}
 use Rattle.c_syntax.specs.Tables.{size, table_of}
 use Rattle.c_grammar.specs.Derivation.{IsTreeOf}
 use Rattle.c_grammar.specs.Vocabulary.{is_storage_word, is_type_word}
-use Rattle.c_typing.specs.Places.{Node, nodes, node_at, kid, parent_of, says, specs_of, specs_by, is_takes, is_unit, is_file_scope, Scope, in_scope, scopes_of, scope_at, no_scope, is_declarator}
-use Rattle.c_typing.specs.Names.{Entity, typedef_name, function_name, static_object, automatic, parameter, enumerator, Places, places, Name, declared_entity, entity_by}
-use Rattle.c_typing.specs.Judgements.{Fault}
+use Rattle.c_typing.specs.Places.{Node, nodes, node_at, kid, parent_of, says, specs_of, specs_by, is_file_scope, Scope, is_declarator}
+use Rattle.c_typing.specs.Names.{typedef_name, function_name, static_object, automatic, places, Name, declared_entity}
 use Rattle.c_typing.specs.Rules.{SpecsPlace, is_inside_function, function_in_block, broken_if}
 use Rattle.c_typing.specs.Declarators.{place_of_specs, specs_place}
 use Rattle.c_typing.specs.Shapes as category
@@ -25,10 +23,10 @@ use Rattle.c_typing.proofs.MadePlaced.{Found, numbered, found, node_there, kid_f
 use Rattle.c_typing.proofs.MadeAround.{and_true, one_any}
 use Rattle.c_typing.proofs.MadeTop.{category_is, has_parent}
 use Rattle.c_typing.proofs.MadeWhole.{begins_named, named_so}
-use Rattle.c_typing.proofs.MadeScopes.{is_body, ScopeAt, of_unit, of_body, of_parameters, scope_holds, unit_last}
+use Rattle.c_typing.proofs.MadeScopes.{is_body, ScopeAt, of_unit, of_body, of_parameters, unit_last}
 use Rattle.c_typing.proofs.MadeDistinct.{same_id, three_ways, body_unnamed, no_body}
 use Rattle.c_typing.proofs.MadeFunctionNames.{Anything, place_known}
-use Rattle.c_typing.proofs.MadeKept.{Low, KeptName}
+use Rattle.c_typing.proofs.MadeKept.{KeptName}
 
 -- ---- what the specifiers say
 
@@ -204,10 +202,13 @@ module _ (tokens : List Token) (t : Tree) (derived : IsTreeOf tokens t) (clean_a
     where
       up : k.names.low.first ≤ k.names.low.id
       up = node_bounds t k.names.low low_in
+
       under_owner : k.names.low.id < k.owner.id
       under_owner = (kid_within t k.owner k.names.low.id owner_in k.kid).1
+
       under_declaration : k.owner.id < above.parent.id
       under_declaration = (kid_within t above.parent k.owner.id declaration_in (kid_in_parent k.owner.id k.owner above)).1
+
       three : (top.parent.id < y.id) ⊎ ((top.parent.id ≡ y.id) ⊎ (y.id < top.parent.id)) → top.parent.id ≤ y.id → is_outer_kind y.label.kind ≡ true
       three (inl less) wide =
           let last = unit_last tokens t derived top.parent top_in top_unit in
@@ -215,6 +216,7 @@ module _ (tokens : List Token) (t : Tree) (derived : IsTreeOf tokens t) (clean_a
           absurd (omega (arith, less, last, below))
       three (inr (inl same)) wide = ap (λ (m : Node). is_outer_kind m.label.kind) (same_id tokens t derived y top.parent h top_in (sym same)) ∙ ap is_outer_kind top_unit
       three (inr (inr more)) wide = absurd (omega (arith, wide, more))
+
       two : (above.parent.id < y.id) ⊎ ((above.parent.id ≡ y.id) ⊎ (y.id < above.parent.id)) → above.parent.id ≤ y.id → is_outer_kind y.label.kind ≡ true
       two (inl less) wide =
           let a = up in
@@ -223,6 +225,7 @@ module _ (tokens : List Token) (t : Tree) (derived : IsTreeOf tokens t) (clean_a
           three (three_ways top.parent.id y.id) (nested t y top.parent above.parent.id h top_in (kid_in_parent above.parent.id above.parent top) (omega (arith, low, a, b, c)) less)
       two (inr (inl same)) wide = ap (λ (m : Node). is_outer_kind m.label.kind) (same_id tokens t derived y above.parent h declaration_in (sym same)) ∙ ap is_outer_kind declaration_is
       two (inr (inr more)) wide = absurd (omega (arith, wide, more))
+
       one : (k.owner.id < y.id) ⊎ ((k.owner.id ≡ y.id) ⊎ (y.id < k.owner.id)) → k.owner.id ≤ y.id → is_outer_kind y.label.kind ≡ true
       one (inl less) wide =
           let a = up in

@@ -1,37 +1,33 @@
 -- The types that names of functions have, where they are declared.
-use Rattle.std.proofs.Common.{◌≡◌, ◌⊎◌, inl, inr, ℕ, zero, suc, ◌+◌, ◌<◌, ◌≤◌, Bool, true, false, ◌||◌, ◌&&◌, not, cond, List, [], ◌∷◌, ◌++◌, length, map, Option, Some, None, refl, sym, ap, ◌∙◌, subst, arith, true≢false, unwrap_or}
-use Rattle.std.specs.Prelude.{slice_get, get_or, if◌then◌else◌, codes}
+use Rattle.std.proofs.Common.{◌≡◌, inl, inr, ℕ, zero, suc, ◌<◌, Bool, true, false, List, [], ◌∷◌, ◌++◌, length, map, Option, Some, None, refl, sym, ap, ◌∙◌, subst, arith, true≢false, unwrap_or}
+use Rattle.std.specs.Prelude.{slice_get, get_or, if◌then◌else◌}
 use Rattle.std.specs.Option.{is_some}
 use Rattle.c_lexer.specs.declared.token.Token.{Token}
-use Rattle.c_syntax.specs.declared.kind.SynKind.{SynKind}
 use Rattle.c_syntax.specs.declared.kind.SynKind.TheVariants as kind
 use Rattle.c_syntax.specs.Trees.{Tree}
 use Rattle.c_syntax.specs.Tables.{table_of}
 use Rattle.c_grammar.specs.Derivation.{IsTreeOf}
 use Rattle.c_types.specs.declared.tree.Func.{Func}
-use Rattle.c_types.specs.declared.tree.Stmt.{Stmt}
-use Rattle.c_types.specs.declared.tree.Cell.{Cell}
 use Rattle.c_typing.specs.Types.{CType}
-use Rattle.c_typing.specs.Places.{Node, nodes, node_at, kid, has_kid, is_whole, says, Scope, specs_of}
-use Rattle.c_typing.specs.Names.{Entity, typedef_name, function_name, static_object, automatic, parameter, enumerator, Places, places, Name, name_of, declared_entity, entity_by, is_static}
-use Rattle.c_typing.specs.Judgements.{Fault, PlacedStep, Meaning, a_type, declares, initialized, defines, Judgement, means, breaks_rules, waits, given, verdict, judgement_at, type_of, type_at}
+use Rattle.c_typing.specs.Places.{Node, nodes, node_at, kid, has_kid}
+use Rattle.c_typing.specs.Names.{function_name, Places, places, Name, name_of, is_static}
+use Rattle.c_typing.specs.Judgements.{Meaning, a_type, declares, initialized, defines, Judgement, means, breaks_rules, waits, given, verdict, judgement_at, type_of, type_at}
 use Rattle.c_typing.specs.Rules.{declared_twice, bad_initializer}
 use Rattle.c_typing.specs.Declarators.{declared_faults, name_faults, type_before}
 use Rattle.c_typing.specs.Expressions.{type_of_name}
 use Rattle.c_typing.specs.Initializers.{Part, part_for, initialized_object, is_object, init_by, init_declarator, bare_code}
 use Rattle.c_typing.specs.Shapes as category
 use Rattle.c_typing.specs.Shapes.{Category, no_category, kids_fit, at_places, categories_of, at_most_one, is_initializer, is_assignment_expression, is_within}
-use Rattle.c_typing.specs.ShapesOfNodes.{as_id, category_at}
+use Rattle.c_typing.specs.ShapesOfNodes.{as_id}
 use Rattle.c_typing.specs.Typing.{judged_by, judgements_at}
 use Rattle.c_typing.proofs.ShapesNodes.{node_placed}
-use Rattle.c_typing.proofs.MadeJudged.{Yields, yielded, yields_verdict, yields_given, IsFront, Stands, stands, front_at, meant_later}
-use Rattle.c_typing.proofs.MadeNodes.{In, in_at}
+use Rattle.c_typing.proofs.MadeJudged.{Yields, yields_verdict, yields_given, IsFront, Stands, stands, front_at, meant_later}
+use Rattle.c_typing.proofs.MadeNodes.{In}
 use Rattle.c_typing.proofs.MadeForms.{yields_if_so}
-use Rattle.c_typing.proofs.MadePlaced.{numbered, found, node_there}
-use Rattle.c_typing.proofs.MadeDeclarators.{Whole, Chains}
-use Rattle.c_typing.proofs.MadeFunctionNames.{Anything, no_chains, name_found}
-use Rattle.c_typing.proofs.MadeTexts.{front_none, back_none}
-use Rattle.c_typing.proofs.MadeKept.{Low, KeptName, kept_name}
+use Rattle.c_typing.proofs.MadePlaced.{node_there}
+use Rattle.c_typing.proofs.MadeFunctionNames.{Anything, name_found}
+use Rattle.c_typing.proofs.MadeTexts.{front_none}
+use Rattle.c_typing.proofs.MadeKept.{KeptName}
 
 -- ---- the declarator of a declaration is its first kid
 
@@ -118,6 +114,7 @@ module _ (tokens : List Token) (t : Tree) (derived : IsTreeOf tokens t)
     where
       early : type_at js x.behind ≡ Some d.type
       early = ap type_of (sym (front_at js front.0 x.behind lt) ∙ ap (λ q. judgement_at q x.behind) (sym front.1)) ∙ d.judged
+
       by : (o : Option CType) → type_at js x.owner ≡ o → (if is_some o then o else type_at js x.behind) ≡ Some d.type
       by None e = early
       by (Some u) e = ap Some (d.owned u (type_later js x.owner u front e))
@@ -167,8 +164,10 @@ module _ (tokens : List Token) (t : Tree) (derived : IsTreeOf tokens t)
       first_kid =
           let p = node_placed tokens t derived k.names.low.parent k.owner k.owner_there in
           sym (first_only k.owner.label.text (categories_of (table_of t)) k.owner.kids k.names.low.id (subst (λ q. kids_fit q k.owner.label.text (at_places (categories_of (table_of t)) (map as_id k.owner.kids)) ≡ true) k.owner_is p.fits.kids) k.kid k.category)
+
       named : name_of (places t) (node_at (nodes t) (kid k.owner 0)).first ≡ Some x
       named = ap (λ i. name_of (places t) (node_at (nodes t) i).first) first_kid ∙ (ap (λ (m : Node). name_of (places t) m.first) (node_there tokens t derived k.names.low.id k.names.low k.names.there) ∙ (ap (λ i. name_of (places t) i) k.names.begins ∙ name_found tokens t derived x among))
+
       owned : (u : CType) → type_of (final x.owner) ≡ Some u → u ≡ k.type
       owned u e =
           let s = stands (places t) k.names.low.parent k.owner k.owner_there in
