@@ -46,6 +46,9 @@
 // facts of `proofs/ShapesBase.antt`; `proofs/ShapesPlaces.antt` and `proofs/ShapesTable.antt` take it to the table;
 // `proofs/ShapesRows.antt` has shapes that hold and shapes that do not.
 //
+// `proofs/Made.antt` has 16 of the 20 facts of a well-made unit (c_types), proved of each typed unit whose functions and declarators
+// have a meaning; it is no law of the crate yet.
+//
 // Source: C99 6.2 to 6.9, without what docs/TYPING.md leaves out.
 #![tactic(auto)]
 

@@ -1,0 +1,48 @@
+-- Where each node of a tree has a meaning of its form, functions and whole declarators have theirs.
+use Rattle.std.proofs.Common.{◌≡◌, ℕ, List, true, false, Bool, Some, refl, sym, ap, ◌∙◌, subst, true≢false}
+use Rattle.std.specs.Prelude.{slice_get}
+use Rattle.c_lexer.specs.declared.token.Token.{Token}
+use Rattle.c_syntax.specs.declared.kind.SynKind.{SynKind}
+use Rattle.c_syntax.specs.declared.kind.SynKind.TheVariants as kind
+use Rattle.c_syntax.specs.Trees.{Tree}
+use Rattle.c_grammar.specs.Derivation.{IsTreeOf}
+use Rattle.c_types.specs.declared.tree.Func.{Func}
+use Rattle.c_typing.specs.Types.{CType}
+use Rattle.c_typing.specs.Places.{Node, nodes, is_whole}
+use Rattle.c_typing.specs.Names.{places}
+use Rattle.c_typing.specs.Judgements.{Meaning, declares, defines, means, judgement_at}
+use Rattle.c_typing.specs.Shapes as category
+use Rattle.c_typing.specs.Shapes.{Category, category_by}
+use Rattle.c_typing.specs.ShapesOfNodes.{category_at}
+use Rattle.c_typing.specs.Typing.{judgements_at}
+use Rattle.c_typing.specs.Meant.{IsMeant, has_form, says_function, says_declarator}
+use Rattle.c_typing.proofs.MadeTop.{category_is}
+use Rattle.c_types.specs.declared.tree.Unit.{Unit as Whole}
+use Rattle.c_typing.specs.Typing.{IsTyped}
+use Rattle.c_typing.proofs.ProgressMeant.{meant}
+use Rattle.c_typing.proofs.Made.{IsMeaningful, IsMadeSoFar, made_so_far}
+
+function_meant : (m : Meaning) → says_function m ≡ true → (f : Func) × (m ≡ defines f)
+function_meant (defines f) e = (f, refl)
+function_meant _ e = absurd (true≢false (sym e))
+
+declarator_meant : (m : Meaning) → says_declarator true m ≡ true → (u : CType) × (m ≡ declares u)
+declarator_meant (declares u) e = (u, refl)
+declarator_meant _ e = absurd (true≢false (sym e))
+
+pub meaningful : (tokens : List Token) (t : Tree) → IsTreeOf tokens t → ((n : ℕ) (m : Node) → slice_get (nodes t) n ≡ Some m → IsMeant t n m) → IsMeaningful t
+unfolding category_by
+meaningful tokens t derived means_all = record {
+  functions = λ n node at is. let h = means_all n node at in
+      let c = category_is tokens t derived n node at in
+      let function : category_at t n ≡ category.function = c.1 ∙ subst (λ k. category_by k node.label.text c.0 ≡ category.function) (sym is) refl in
+      let f = function_meant h.meaning (subst (λ d. has_form d node.label.kind (is_whole (nodes t) node) h.meaning ≡ true) function h.form) in
+      (f.0, h.judged ∙ ap means f.1);
+  declarators = λ n node at is whole. let h = means_all n node at in
+      let u = declarator_meant h.meaning (subst (λ b. says_declarator b h.meaning ≡ true) whole (subst (λ d. has_form d node.label.kind (is_whole (nodes t) node) h.meaning ≡ true) is h.form)) in
+      (u.0, h.judged ∙ ap means u.1);
+}
+
+-- so a typed unit is made so
+pub typed_made : (tokens : List Token) (t : Tree) (u : Whole) → IsTreeOf tokens t → IsTyped t u → IsMadeSoFar u
+typed_made tokens t u derived typed = made_so_far tokens t u derived typed (meaningful tokens t derived (λ n m at. meant tokens t n m derived typed.keeps at))
