@@ -19,12 +19,12 @@ pub enum Step {
     Seal(usize),
 }
 
-// A value that was read.
+/// A value that was read.
 #[derive(Clone, Copy)]
-struct Answer {
-    var: usize,
-    block: usize,
-    value: usize,
+pub struct Answer {
+    pub var: usize,
+    pub block: usize,
+    pub value: usize,
 }
 
 // The value is one that the target was given, and its block is there.
@@ -65,14 +65,14 @@ fn take_steps(
     target: &mut ListTarget,
     builder: &mut SsaBuilder<ListTarget>,
     steps: &[Step],
-    open: &mut Vec<bool>,
+    flags: &mut Vec<bool>,
     answers: &mut Vec<Answer>,
 ) -> Result<(), AllocError>
     requires ready { IsReady (λ var. word) builder.old (shape_of target.old) }
-    requires flags { AreOpen open.old.items builder.old.sealed }
+    requires unsealed { AreOpen flags.old.items builder.old.sealed }
 {
     for step in steps {
-        take_step(target, builder, *step, open, answers)?;
+        take_step(target, builder, *step, flags, answers)?;
     }
     Ok(())
 }
@@ -81,13 +81,13 @@ fn take_step(
     target: &mut ListTarget,
     builder: &mut SsaBuilder<ListTarget>,
     step: Step,
-    open: &mut Vec<bool>,
+    flags: &mut Vec<bool>,
     answers: &mut Vec<Answer>,
 ) -> Result<(), AllocError>
     requires ready { IsReady (λ var. word) builder.old (shape_of target.old) }
-    requires flags { AreOpen open.old.items builder.old.sealed }
+    requires unsealed { AreOpen flags.old.items builder.old.sealed }
     ensures ready { OnOk result (IsReady (λ var. word) builder.new (shape_of target.new)) }
-    ensures flags { OnOk result (AreOpen open.new.items builder.new.sealed) }
+    ensures unsealed { OnOk result (AreOpen flags.new.items builder.new.sealed) }
 {
     match step {
         Step::Read(var, block) if block < target.blocks.len() => {
@@ -95,9 +95,9 @@ fn take_step(
             answers.push(Answer { var, block, value })?;
             Ok(())
         }
-        Step::Seal(block) if block < target.blocks.len() && block < open.len() && open[block] => {
+        Step::Seal(block) if block < target.blocks.len() && block < flags.len() && flags[block] => {
             builder.seal(target, block)?;
-            open[block] = false;
+            flags[block] = false;
             Ok(())
         }
         _ => Ok(()),
@@ -161,12 +161,12 @@ pub fn reads_agree(
             value,
         })?;
     }
-    let mut open = Vec::new(alloc);
+    let mut flags = Vec::new(alloc);
     for _ in 0..blocks {
-        open.push(true)?;
+        flags.push(true)?;
     }
     let mut answers = Vec::new(alloc);
-    answer_all(alloc, &mut target, &writes, steps, &mut open, &mut answers)?;
+    answer_all(alloc, &mut target, &writes, steps, &mut flags, &mut answers)?;
     let mut walk = Vec::new(alloc);
     for answer in &answers {
         if !agrees(&target, &writes, *answer, &mut walk)? {
@@ -176,17 +176,17 @@ pub fn reads_agree(
     Ok(true)
 }
 
-// All writes, and then the steps.
-fn answer_all(
+/// All writes, and then the steps.
+pub fn answer_all(
     alloc: Global,
     target: &mut ListTarget,
     writes: &[Wrote],
     steps: &[Step],
-    open: &mut Vec<bool>,
+    flags: &mut Vec<bool>,
     answers: &mut Vec<Answer>,
 ) -> Result<(), AllocError> {
     callers_keep::<ListTarget>();
     let mut builder: SsaBuilder<ListTarget> = SsaBuilder::new(alloc);
     write_all(target, &mut builder, writes)?;
-    take_steps(target, &mut builder, steps, open, answers)
+    take_steps(target, &mut builder, steps, flags, answers)
 }

@@ -329,3 +329,16 @@ fn irreducible(rt: HostRuntime) {
     );
     assert!(rt; matches!(agree, Ok(true)));
 }
+
+// Where memory is refused, no other answer comes in place of the refusal.
+#[test]
+fn refused_memory(rt: HostRuntime) {
+    let agree = reads_agree(
+        rt.alloc(),
+        6,
+        &NESTED_LOOPS_EDGES,
+        &NESTED_LOOPS_WRITES,
+        &NESTED_LOOPS_STEPS,
+    );
+    assert!(rt; !matches!(agree, Ok(false)));
+}

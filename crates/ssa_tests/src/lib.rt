@@ -3,9 +3,11 @@
 
 mod flow;
 mod flows;
+mod ladder;
 mod list_target;
 mod lists;
 mod only;
 mod walk;
 
+pub use ladder::read_ladder;
 pub use lists::ListTarget;

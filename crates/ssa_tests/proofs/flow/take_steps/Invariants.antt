@@ -7,5 +7,5 @@ use Rattle.ssa_tests.proofs.flow.take_steps.Given as goal
 abbrev pub invariant-loop-step : goal.invariant-loop-step
 invariant-loop-step l = record {
   ready : IsReady (λ var. word) l.builder (shape_of l.target);
-  flags : AreOpen l.open.items l.builder.sealed;
+  unsealed : AreOpen l.flags.items l.builder.sealed;
 }
