@@ -10,14 +10,11 @@ use c_values::{
 use cp_base::{Kind as Access, To};
 use std::alloc::{AllocError, Global};
 
-// The size of a pointer to a function that takes an `int` and gives nothing.
+// The size of a pointer to a function that takes nothing and gives nothing.
 fn size_of_pointer(alloc: Global) -> Result<Option<u32>, AllocError> {
     let mut table = TypeTable::new(alloc, 1)?;
-    let int = table.integer(Integer::Int)?;
-    let mut takes = TypeList::new(alloc);
-    takes.push(int)?;
     let void = table.void()?;
-    let function = table.function(void, takes)?;
+    let function = table.function(void, TypeList::new(alloc))?;
     let pointer = table.pointer(function)?;
     Ok(table.size(pointer))
 }
