@@ -176,7 +176,7 @@ module _ (k : Known) (d : AreDistinct k) (s : StructId) (members : List (List �
 
   pub closed_by : StructFits k.table (members_from members) → IsClosedBy k (record { table = closed k.table s (members_from members); structs = k.structs }) s members
   closed_by fits = record {
-    keeps = record { types = λ id t h. h; structs = λ node r h. h; sized = λ id h. (h.0, sizes.types id h.0 h.1); long = refl };
+    keeps = record { types = λ id t h. h; structs = λ node r h. h; there = λ id h. h; sized = λ id h. (h.0, sizes.types id h.0 h.1); long = refl };
     laid = all_laid;
     fits = λ node layouts fields ok are. fits (measures_of layouts fields) (all_measured k layouts ok members fields are sized);
   }

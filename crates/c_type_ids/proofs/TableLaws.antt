@@ -70,17 +70,18 @@ all_laid old new k fresh layouts h = λ node. by node (struct_by old.structs nod
 
 grows : (old new : Known) → Preserves old new → IsFresh old new → length new.structs ≡ length old.structs → Grows old new
 grows old new k fresh long = record {
-  keeps = record { types = k.types; structs = k.structs; sized = λ id h. (h.0, k.sizes.types id h.0 h.1); long = long };
+  keeps = record { types = k.types; structs = k.structs; there = k.sizes.there; sized = λ id h. (h.0, k.sizes.types id h.0 h.1); long = long };
   laid = all_laid old new k fresh;
 }
 
 pub grows_same : (old new : Known) → new ≡ old → Grows old new
-grows_same old new e = subst (Grows old) (sym e) (record { keeps = record { types = λ id t h. h; structs = λ node s h. h; sized = λ id h. h; long = refl }; laid = λ layouts h. h })
+grows_same old new e = subst (Grows old) (sym e) (record { keeps = record { types = λ id t h. h; structs = λ node s h. h; there = λ id h. h; sized = λ id h. h; long = refl }; laid = λ layouts h. h })
 
 pub keeps_on : (a b c : Known) → Keeps a b → Keeps b c → Keeps a c
 keeps_on a b c g h = record {
   types = λ id t x. h.types id t (g.types id t x);
   structs = λ node s x. h.structs node s (g.structs node s x);
+  there = λ id x. h.there id (g.there id x);
   sized = λ id x. h.sized id (g.sized id x);
   long = h.long ∙ g.long;
 }

@@ -5,7 +5,7 @@ use Rattle.c_types.specs.declared.kind.StructId.{StructId}
 use Rattle.c_types.specs.declared.kind.TypeKind.{TypeKind}
 use Rattle.c_types.specs.declared.kind.TypeKind.TheVariants as kind
 use Rattle.c_types.specs.Sizes.{Table, Member, Has, IsOpen, IsClosed, IsSized, MeasuresAll, struct_measure}
-use Rattle.c_types.specs.Tables.{IsStruct}
+use Rattle.c_types.specs.Tables.{IsStruct, IsThere}
 use Rattle.c_typing.specs.Types.{CType, CTypes, void, integer, pointer, array, unsized, struct, function, no_types, a_type, Field, Layout, layout_of}
 use Rattle.c_types.specs.declared.kind.Measure.{Measure}
 use Rattle.c_types.specs.InOrder.{offsets}
@@ -91,6 +91,7 @@ AreLaid k layouts = (node : ℕ) → LaidAs k (struct_by k.structs node) (layout
 pub record Keeps (old new : Known) : Type 0 where
   pub types : (id : TypeId) (t : TypeKind) → Has old.table id t → Has new.table id t
   pub structs : (node : ℕ) (s : StructId) → struct_by old.structs node ≡ Some s → struct_by new.structs node ≡ Some s
+  pub there : (id : TypeId) → IsThere old.table id → IsThere new.table id
   pub sized : (id : TypeId) → IsSized old.table id → IsSized new.table id
   pub long : length new.structs ≡ length old.structs
 

@@ -48,6 +48,7 @@ impl TypeTable {
 
     pub fn void(&mut self) -> Result<TypeId, AllocError>
         ensures ok { IfOk result (λ id. Names self.new id types.void) }
+        ensures there { IfOk result (IsThere self.new.table) }
         ensures grows { Grows self.old self.new }
     {
         self.add_small(TypeKind::Void)
@@ -55,6 +56,7 @@ impl TypeTable {
 
     pub fn integer(&mut self, integer: Integer) -> Result<TypeId, AllocError>
         ensures ok { IfOk result (λ id. Names self.new id (types.integer (integer_of integer))) }
+        ensures there { IfOk result (IsThere self.new.table) }
         ensures grows { Grows self.old self.new }
     {
         self.add_small(integer.kind())
@@ -63,6 +65,7 @@ impl TypeTable {
     pub fn pointer(&mut self, to: TypeId) -> Result<TypeId, AllocError>
         requires { IsThere self.old.table to }
         ensures ok { IfOk result (λ id. (t : CType) → Names self.old to t → Names self.new id (types.pointer t)) }
+        ensures there { IfOk result (IsThere self.new.table) }
         ensures grows { Grows self.old self.new }
     {
         self.add_small(TypeKind::Pointer(to))
@@ -72,6 +75,7 @@ impl TypeTable {
     pub fn array(&mut self, element: TypeId, count: u32) -> Result<TypeId, TypeFault>
         requires { IsSized self.old.table element }
         ensures ok { IfOk result (λ id. (t : CType) → Names self.old element t → Names self.new id (types.array t count)) }
+        ensures there { IfOk result (IsThere self.new.table) }
         ensures fits { OnOk result ((m : Measure) → IsMeasured self.old.table element m → count * m.size ≤ MAX_SIZE) }
         ensures too_big { (size : ℕ) → result ≡ Err (TypeFault.TooBig size) →
             (m : Measure) × IsMeasured self.old.table element m × (size ≡ count * m.size) × IsTooBig size }
@@ -84,6 +88,7 @@ impl TypeTable {
         requires gives { IsThere self.old.table gives }
         requires takes { AllByRecursion (IsThere self.old.table) takes }
         ensures ok { IfOk result (λ id. (t : CType) (ts : CTypes) → Names self.old gives t → NamesAll self.old takes ts → Names self.new id (types.function t ts)) }
+        ensures there { IfOk result (IsThere self.new.table) }
         ensures grows { Grows self.old self.new }
     {
         self.add_small(TypeKind::Function(gives, takes))
@@ -93,6 +98,7 @@ impl TypeTable {
     pub fn structure(&mut self, node: usize) -> Result<TypeId, AllocError>
         requires { node < length self.old.structs }
         ensures ok { IfOk result (λ id. Names self.new id (types.struct node)) }
+        ensures there { IfOk result (IsThere self.new.table) }
         ensures grows { Grows self.old self.new }
     {
         let s = self.struct_of(node)?;
@@ -155,6 +161,7 @@ impl TypeTable {
     fn add_small(&mut self, kind: TypeKind) -> Result<TypeId, AllocError>
         requires { PartsAreThere self.old.table kind }
         ensures found { IfOk result (λ id. Has self.new.table id kind) }
+        ensures there { IfOk result (IsThere self.new.table) }
         ensures grows { Grows self.old self.new }
     {
         match self.add(kind) {
@@ -167,6 +174,7 @@ impl TypeTable {
     fn add(&mut self, kind: TypeKind) -> Result<TypeId, TypeFault>
         requires { PartsAreThere self.old.table kind }
         ensures found { IfOk result (λ id. Has self.new.table id kind) }
+        ensures there { IfOk result (IsThere self.new.table) }
         ensures fits { OnOk result (Fits self.old.table kind) }
         ensures too_big { (size : ℕ) → result ≡ Err (TypeFault.TooBig size) →
             (m : Measure) × Measures self.old.table kind m × (m.size ≡ size) × IsTooBig size }
