@@ -8,7 +8,7 @@ ghost use Rattle.c_typing.specs.Rules as rules;
 ghost use Rattle.c_type_ids.specs.Integers.{integer_of};
 ghost use Rattle.c_constants.specs.Constants.{constant_of};
 
-use crate::operators::operate;
+use c_operators::operate;
 use c_type_ids::{Integer, traits_of};
 use c_types::COp;
 use cp_base::{Op, apply};

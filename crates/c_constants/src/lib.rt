@@ -5,20 +5,15 @@
 //
 // The idea: one value of a small type goes up the tree beside each expression, and each operator has one function.
 //
-// The theorem, on each function: the answer is that of the definition in `c_typing`. On `operate`: the word is that of the
-// operators of C, and there is none exactly where C99 has it undefined.
-//
-// `constants` has the constants, `operators` the operators on words.
+// The theorem, on each function: the answer is that of the definition in `c_typing`.
 //
 // Source: C99 6.5, 6.6.
 #![tactic(auto)]
 
 mod constants;
-mod operators;
 
 pub use constants::{
     Constant, address_constant, address_in, both_constant, chosen_constant, either_constant,
     element_at, integer_cast, is_constant, is_null, moved_down, moved_up, operated, part_at,
     pointer_cast,
 };
-pub use operators::operate;

@@ -7,8 +7,8 @@
 // The idea: the pending work stands in a vector, so that no tree is walked on the host's stack. A machine has a task, what
 // comes next, and frames, each a construct that waits for the value or the end of its part (`frame`). A step either opens
 // its task, which pushes a frame and goes on with the first part (`machine`, `statements`), or has a value, and gives it to
-// the last frame (`machine`, `calls`). `operators`, `data` and `labels` have what needs no frame: operators, accesses, and
-// the group of a `switch`. The locals of all active calls stand in one vector, those of the present call last; arguments
+// the last frame (`machine`, `calls`). `data` and `labels` have what needs no frame: accesses, and the group of a
+// `switch`. The locals of all active calls stand in one vector, those of the present call last; arguments
 // are frames until all are known. Two loops run: one steps up to the next turn, call or end (`run`), the other takes what
 // stands there (`turns`) and hands on the output, once there are 4,096 bytes of it and before the answer (`rounds`).
 // `unit` lays out the data, and begins with `main`.
@@ -32,7 +32,6 @@ mod data;
 mod frame;
 mod labels;
 mod machine;
-mod operators;
 mod rounds;
 mod run;
 mod statements;

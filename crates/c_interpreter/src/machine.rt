@@ -10,7 +10,7 @@ ghost use Rattle.c_interpreter.specs.Leading.{Leads, LeadsFrom, Continues, SetsL
 use crate::data::{copy, load, store};
 use crate::frame::{Ending, Frame, Task};
 use crate::labels::passed;
-use crate::operators::operate;
+use c_operators::operate;
 use c_types::{COp, CellValue, Expr, Func, Group, Kind, Stmt, To, Unit};
 use cp_base::{Op, apply};
 use run_model::Outcome;
