@@ -118,3 +118,6 @@ pub mod MadeCalled
 pub mod Made
 pub mod RowsWords
 pub mod MadeMeant
+pub mod MadeWords
+pub mod MadeWordsTrees
+pub mod MadeWordsNames
