@@ -50,7 +50,13 @@ fn have_parents(alloc: Global, text: &str, wanted: &[usize]) -> bool {
 fn parents(rt: HostRuntime) {
     let alloc = rt.alloc();
     assert!(rt; have_parents(alloc, OBJECT, &[1, 4, 3, 4, 5, 6]));
-    assert!(rt; have_parents(alloc, FUNCTION, &[1, 14, 7, 4, 6, 6, 7, 14, 12, 12, 12, 12, 13, 14, 15, 16]));
+    assert!(rt;
+        have_parents(
+            alloc,
+            FUNCTION,
+            &[1, 14, 7, 4, 6, 6, 7, 14, 12, 12, 12, 12, 13, 14, 15, 16]
+        )
+    );
 }
 
 // The declarators that begin with each node, and the parts next to it.
@@ -72,7 +78,9 @@ fn declarators(rt: HostRuntime) {
     let alloc = rt.alloc();
     assert!(rt; declarators_are(alloc, OBJECT, &[6, 6, 2, 6, 6, 6], &[6, 6, 6, 6, 6, 6]));
     let wholes = [16, 16, 7, 16, 16, 5, 16, 16, 16, 16, 16, 16, 16, 16, 16, 16];
-    let next = [16, 16, 7, 16, 16, 16, 16, 16, 16, 16, 16, 16, 16, 16, 16, 16];
+    let next = [
+        16, 16, 7, 16, 16, 16, 16, 16, 16, 16, 16, 16, 16, 16, 16, 16,
+    ];
     assert!(rt; declarators_are(alloc, FUNCTION, &wholes, &next));
 }
 
@@ -89,9 +97,13 @@ fn around_are(alloc: Global, text: &str, kinds: Kinds, wanted: &[usize]) -> bool
 #[test]
 fn loops_and_functions(rt: HostRuntime) {
     let alloc = rt.alloc();
-    let loops = [16, 16, 16, 16, 16, 16, 16, 16, 12, 12, 12, 12, 12, 16, 16, 16];
+    let loops = [
+        16, 16, 16, 16, 16, 16, 16, 16, 12, 12, 12, 12, 12, 16, 16, 16,
+    ];
     assert!(rt; around_are(alloc, FUNCTION, Kinds::Loop, &loops));
-    let functions = [14, 14, 14, 14, 14, 14, 14, 14, 14, 14, 14, 14, 14, 14, 14, 16];
+    let functions = [
+        14, 14, 14, 14, 14, 14, 14, 14, 14, 14, 14, 14, 14, 14, 14, 16,
+    ];
     assert!(rt; around_are(alloc, FUNCTION, Kinds::Function, &functions));
 }
 
