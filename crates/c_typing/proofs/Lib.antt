@@ -111,6 +111,7 @@ pub mod MadeParameter
 pub mod MadeLocals
 pub mod MadeConstants
 pub mod MadeAddresses
+pub mod MadeCells
 pub mod MadeTyped
 pub mod MadeProto
 pub mod MadeCalls
