@@ -112,6 +112,7 @@ pub mod MadeLocals
 pub mod MadeConstants
 pub mod MadeAddresses
 pub mod MadeCells
+pub mod MadeCellsParts
 pub mod MadeTyped
 pub mod MadeProto
 pub mod MadeCalls
