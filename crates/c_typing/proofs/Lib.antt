@@ -113,6 +113,7 @@ pub mod MadeConstants
 pub mod MadeAddresses
 pub mod MadeCells
 pub mod MadeCellsParts
+pub mod MadeCellsTypes
 pub mod MadeTyped
 pub mod MadeProto
 pub mod MadeCalls
