@@ -114,6 +114,7 @@ pub mod MadeAddresses
 pub mod MadeCells
 pub mod MadeCellsParts
 pub mod MadeCellsTypes
+pub mod MadeCellsBraces
 pub mod MadeTyped
 pub mod MadeProto
 pub mod MadeCalls
