@@ -115,6 +115,8 @@ pub mod MadeCells
 pub mod MadeCellsParts
 pub mod MadeCellsTypes
 pub mod MadeCellsBraces
+pub mod MadeCellsLater
+pub mod MadeCellsNested
 pub mod MadeTyped
 pub mod MadeProto
 pub mod MadeCalls
