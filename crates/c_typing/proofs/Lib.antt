@@ -117,6 +117,7 @@ pub mod MadeCellsTypes
 pub mod MadeCellsBraces
 pub mod MadeCellsLater
 pub mod MadeCellsNested
+pub mod MadeCellsStructs
 pub mod MadeTyped
 pub mod MadeProto
 pub mod MadeCalls
