@@ -118,6 +118,7 @@ pub mod MadeCellsBraces
 pub mod MadeCellsLater
 pub mod MadeCellsNested
 pub mod MadeCellsStructs
+pub mod MadeCellsMembers
 pub mod MadeTyped
 pub mod MadeProto
 pub mod MadeCalls
