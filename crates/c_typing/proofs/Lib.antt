@@ -119,6 +119,7 @@ pub mod MadeCellsLater
 pub mod MadeCellsNested
 pub mod MadeCellsStructs
 pub mod MadeCellsMembers
+pub mod MadeCellsTargets
 pub mod MadeTyped
 pub mod MadeProto
 pub mod MadeCalls
