@@ -120,6 +120,7 @@ pub mod MadeCellsNested
 pub mod MadeCellsStructs
 pub mod MadeCellsMembers
 pub mod MadeCellsTargets
+pub mod MadeCellsInitialized
 pub mod MadeTyped
 pub mod MadeProto
 pub mod MadeCalls

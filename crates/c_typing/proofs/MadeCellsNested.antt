@@ -136,7 +136,7 @@ module _ (tokens : List Token) (t : Tree) (derived : IsTreeOf tokens t)
           differ a b lt = grind (arith, nat_tests, lt)
 
   -- braces that are done, for the part that they stand for
-  done_for : (n j : ℕ) (u : CType) (k : ℕ) (cs : List Cell) → j ≤ n → Done j k cs → ((w : CType) → target (places t) (take j (judgements_at (places t))) j ≡ Some w → w ≡ u)
+  pub done_for : (n j : ℕ) (u : CType) (k : ℕ) (cs : List Cell) → j ≤ n → Done j k cs → ((w : CType) → target (places t) (take j (judgements_at (places t))) j ≡ Some w → w ≡ u)
       → Stand 0 (size_of (layouts (take n (judgements_at (places t)))) (completed u (Some k))) cs
   done_for n j u k cs le (inl empty) same = subst (λ xs. Stand 0 (size_of (layouts (take n (judgements_at (places t)))) (completed u (Some k))) xs) (sym empty) (no_cells 0 _ (omega arith))
   done_for n j u k cs le (inr d) same =
