@@ -66,3 +66,12 @@ hold_later js a b t le h = let r = layouts_later js a b le in subst (λ ls. MayH
 
 pub sized_later : (js : List Judgement) (a b : ℕ) (t : CType) → a ≤ b → has_size (layouts (take a js)) t ≡ true → has_size (layouts (take b js)) t ≡ true
 sized_later js a b t le h = let r = layouts_later js a b le in subst (λ ls. has_size ls t ≡ true) (sym r.1) (sized_more (layouts (take a js)) r.0 t h)
+
+-- of a type that has got its length or not
+pub any_more : (ls more : List Layout) (t : CType) (c : Option ℕ) → MayHold ls t → size_of (ls ++ more) (completed t c) ≡ size_of ls (completed t c)
+any_more ls more t (Some k) h = done_more ls more t k h
+any_more ls more t None (inl h) =
+    let same = completed_other t None (sized_length ls t h) in
+    ap (λ u. size_of (ls ++ more) u) same ∙ (size_more ls more t h ∙ ap (λ u. size_of ls u) (sym same))
+any_more ls more (unsized w) None (inr h) = refl
+any_more ls more _ None (inr h) = no h.0

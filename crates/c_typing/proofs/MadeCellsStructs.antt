@@ -104,7 +104,7 @@ module _ (p : Places) (laid_at : (n : ℕ) (l : Layout) → judgement_at (judgem
           subst (λ ls. FieldsStand ls 0 x.fields x.measure.size) (sym r.1) (fields_more (layouts (take n (judgements_at p))) r.0 0 x.fields x.measure.size (laid_at n x h.1))
 
 -- structs that are complete are aligned from the first on
-take_all : (js : List Judgement) (n : ℕ) → (rest : List Judgement) × (js ≡ take n js ++ rest)
+pub take_all : (js : List Judgement) (n : ℕ) → (rest : List Judgement) × (js ≡ take n js ++ rest)
 take_all js zero = (js, by js)
   where
     by : (ks : List Judgement) → ks ≡ take 0 ks ++ ks

@@ -62,7 +62,7 @@ first_there cat [] e = absurd (clash e)
     clash f = true≢false (sym (ap of.is_declarator_only f))
 first_there cat (k ∷ ks) e = (refl, e)
 
-type_meant : (js : List Judgement) (b k : ℕ) (u : CType) → type_at (take b js) k ≡ Some u → (k < b) × (type_of (judgement_at js k) ≡ Some u)
+pub type_meant : (js : List Judgement) (b k : ℕ) (u : CType) → type_at (take b js) k ≡ Some u → (k < b) × (type_of (judgement_at js k) ≡ Some u)
 type_meant [] zero k u e = absurd (cc e)
 type_meant (j ∷ js) zero k u e = absurd (cc e)
 type_meant [] (suc b) k u e = absurd (cc e)
@@ -95,7 +95,7 @@ module _ (tokens : List Token) (t : Tree) (derived : IsTreeOf tokens t) (quiet :
   l = are_linked tokens t derived
 
   -- the type that the declarator of an object declares
-  declared_hold : (o : ℕ) (outer : Node) (e : Name) (u : CType) → slice_get (nodes t) o ≡ Some outer → outer.label.kind ≡ kind.InitDecl → declared_object (places t) outer ≡ Some e → type_of (judgement_at (judgements_at (places t)) (kid outer 0)) ≡ Some u
+  pub declared_hold : (o : ℕ) (outer : Node) (e : Name) (u : CType) → slice_get (nodes t) o ≡ Some outer → outer.label.kind ≡ kind.InitDecl → declared_object (places t) outer ≡ Some e → type_of (judgement_at (judgements_at (places t)) (kid outer 0)) ≡ Some u
       → MayHold (layouts (take (kid outer 0) (judgements_at (places t)))) u
   declared_hold o outer e u at is object typed = by (size_or (layouts w.js) u q.node.id size)
     where
