@@ -121,6 +121,7 @@ pub mod MadeCellsStructs
 pub mod MadeCellsMembers
 pub mod MadeCellsTargets
 pub mod MadeCellsInitialized
+pub mod MadeCellsData
 pub mod MadeTyped
 pub mod MadeProto
 pub mod MadeCalls
