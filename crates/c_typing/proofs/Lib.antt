@@ -122,6 +122,7 @@ pub mod MadeCellsMembers
 pub mod MadeCellsTargets
 pub mod MadeCellsInitialized
 pub mod MadeCellsData
+pub mod MadeCellsApart
 pub mod MadeTyped
 pub mod MadeProto
 pub mod MadeCalls
