@@ -187,3 +187,8 @@ module _ (tokens : List Token) (t : Tree) (derived : IsTreeOf tokens t) (quiet :
   pub cells_apart : InEveryObject (unit_in (places t) (judgements_at (places t))) (λ o. AllApart o.cells)
   cells_apart = all_joint (λ (o : Object). AllApart o.cells) (map (object_of (places t) (judgements_at (places t))) (objects_of (places t))) (map (λ (n : Node). literal_object n.label.bytes) (literals_of (places t) (judgements_at (places t))))
       (objects_apart (objects_of (places t))) (literals_apart (literals_of (places t) (judgements_at (places t))))
+
+-- so do those of a typed unit
+pub typed_apart : (tokens : List Token) (t : Tree) (u : Whole) → IsTreeOf tokens t → IsTyped t u → InEveryObject u (λ o. AllApart o.cells)
+unfolding unit_of
+typed_apart tokens t u derived typed = subst (λ w. InEveryObject w (λ o. AllApart o.cells)) typed.unit (cells_apart tokens t derived typed.keeps)
