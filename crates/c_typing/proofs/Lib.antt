@@ -123,6 +123,7 @@ pub mod MadeCellsTargets
 pub mod MadeCellsInitialized
 pub mod MadeCellsData
 pub mod MadeCellsApart
+pub mod MadeCellsSame
 pub mod MadeTyped
 pub mod MadeProto
 pub mod MadeCalls
