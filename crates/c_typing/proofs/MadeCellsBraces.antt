@@ -140,7 +140,6 @@ module _ (p : Places) (js : List Judgement) (node : Node) (static : Bool) where
     next : (i s : ℕ) → i * s + s ≡ suc i * s
     next i s = grind arith
 
-
     -- at most n elements of one size
     abbrev element_place : ℕ → ℕ → ℕ → ℕ
     element_place n s i = (if nat_lt i n then i else n) * s

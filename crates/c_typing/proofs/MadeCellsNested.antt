@@ -179,8 +179,12 @@ module _ (tokens : List Token) (t : Tree) (derived : IsTreeOf tokens t)
           let whole : target (places t) (take n (judgements_at (places t))) n ≡ Some h.0 = ap (λ i. target (places t) (take n (judgements_at (places t))) i) (sym id) ∙ h.1 in
           let made = h.2 in
           let s = stand_braces (places t) (take n (judgements_at (places t))) m (is_static_name (init_around (places t) m)) (laid n) h.0 made.parts (may n h.0 whole) made.fit made.there made.none (kids_done n m h.0 at same whole before) in
-          inr (h.0, whole, subst (λ i. Stand 0 (size_of (layouts (take n (judgements_at (places t)))) (completed h.0 (Some i))) cs) made.count
-          (subst (λ xs. Stand 0 (size_of (layouts (take n (judgements_at (places t)))) (completed h.0 (Some (count_in (places t) h.0 m)))) xs) made.cells s))
+          inr (
+            h.0,
+            whole,
+            subst (λ i. Stand 0 (size_of (layouts (take n (judgements_at (places t)))) (completed h.0 (Some i))) cs) made.count
+                (subst (λ xs. Stand 0 (size_of (layouts (take n (judgements_at (places t)))) (completed h.0 (Some (count_in (places t) h.0 m)))) xs) made.cells s),
+          )
 
   pub all_done : (n : ℕ) → DoneAt n
   all_done n = by_number DoneAt step n
