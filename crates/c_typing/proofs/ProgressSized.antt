@@ -130,7 +130,7 @@ module _ (tokens : List Token) (t : Tree) (derived : IsTreeOf tokens t) (quiet :
           let plain = specs_lengthy tokens t derived quiet e.behind f (specs_of (nodes t) (parent_of (nodes t) de.whole.node.id)).id s made.base typed in
           absurd (true≢false (sym base ∙ plain))
 
-  all_lengthy : (n : ℕ) → Lengthy tokens t derived quiet n
+  pub all_lengthy : (n : ℕ) → Lengthy tokens t derived quiet n
   all_lengthy n = by_number (Lengthy tokens t derived quiet) step n
     where
       step : (n : ℕ) → ((k : ℕ) → k < n → Lengthy tokens t derived quiet k) → Lengthy tokens t derived quiet n
