@@ -118,3 +118,5 @@ pub mod MadeCalled
 pub mod Made
 pub mod RowsWords
 pub mod MadeMeant
+pub mod MadeCopiedSizes
+pub mod MadeCopiedTypes

@@ -70,7 +70,7 @@ take_rest js zero = (js, by js)
 take_rest [] (suc n) = ([], refl)
 take_rest (j ∷ js) (suc n) = let r = take_rest js n in (r.0, ap (λ ks. j ∷ ks) r.1)
 
-sized_later : (js : List Judgement) (n : ℕ) (t : CType) → has_size (layouts (take n js)) t ≡ true → has_size (layouts js) t ≡ true
+pub sized_later : (js : List Judgement) (n : ℕ) (t : CType) → has_size (layouts (take n js)) t ≡ true → has_size (layouts js) t ≡ true
 sized_later js n t h =
     let r = take_rest js n in
     ap (λ ks. has_size (layouts ks) t) r.1 ∙ (ap (λ ls. has_size ls t) (layouts_front (take n js) r.0) ∙ measured_more (layouts (take n js)) (layouts r.0) t h)
