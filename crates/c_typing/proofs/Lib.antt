@@ -120,3 +120,4 @@ pub mod RowsWords
 pub mod MadeMeant
 pub mod MadeCopiedSizes
 pub mod MadeCopiedTypes
+pub mod MadeCopiedStructs

@@ -41,14 +41,14 @@ no e = absurd (true≢false (sym e))
 
 -- ---- kinds of specs
 
-over_no : (test : Category → Bool) → test category.declarator ≡ false → test category.abstract_declarator ≡ false → test category.no_category ≡ false → (cs : List Category) → test (declarator_over cs) ≡ false
+pub over_no : (test : Category → Bool) → test category.declarator ≡ false → test category.abstract_declarator ≡ false → test category.no_category ≡ false → (cs : List Category) → test (declarator_over cs) ≡ false
 over_no test d a n (category.declarator ∷ cs) = d
 over_no test d a n (category.abstract_declarator ∷ cs) = a
 over_no test d a n (category.no_name ∷ cs) = a
 over_no test d a n (_ ∷ cs) = n
 over_no test d a n [] = n
 
-brackets_no : (test : Category → Bool) → test category.declarator ≡ false → test category.abstract_declarator ≡ false → test category.no_category ≡ false → test (category.expression 0) ≡ false → (cs : List Category) → test (in_parentheses cs) ≡ false
+pub brackets_no : (test : Category → Bool) → test category.declarator ≡ false → test category.abstract_declarator ≡ false → test category.no_category ≡ false → test (category.expression 0) ≡ false → (cs : List Category) → test (in_parentheses cs) ≡ false
 brackets_no test d a n x (category.expression l ∷ cs) = x
 brackets_no test d a n x (category.declarator ∷ cs) = d
 brackets_no test d a n x (category.abstract_declarator ∷ cs) = a
