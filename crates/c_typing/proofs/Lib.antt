@@ -121,3 +121,4 @@ pub mod MadeMeant
 pub mod MadeCopiedSizes
 pub mod MadeCopiedTypes
 pub mod MadeCopiedStructs
+pub mod MadeCopiedForms
