@@ -122,3 +122,6 @@ pub mod MadeCopiedSizes
 pub mod MadeCopiedTypes
 pub mod MadeCopiedStructs
 pub mod MadeCopiedForms
+pub mod MadeCopiedNames
+pub mod MadeCopiedCode
+pub mod MadeCopied
