@@ -120,6 +120,7 @@ pub mod RowsWords
 pub mod MadeMeant
 pub mod MadeCopiedSizes
 pub mod MadeCopiedTypes
+pub mod MadeCopiedMembers
 pub mod MadeCopiedStructs
 pub mod MadeCopiedForms
 pub mod MadeCopiedNames

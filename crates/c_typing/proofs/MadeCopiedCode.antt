@@ -30,7 +30,8 @@ use Rattle.c_typing.proofs.MadeObjects.{denoted_in}
 use Rattle.c_typing.proofs.MadeTexts.{back_none}
 use Rattle.c_typing.proofs.MadeKept.{is_object_entity}
 use Rattle.c_typing.proofs.MadeCopiedSizes.{is_hollow}
-use Rattle.c_typing.proofs.MadeCopiedStructs.{Sized, sized_on, members_sized}
+use Rattle.c_typing.proofs.MadeCopiedMembers.{Sized, sized_on}
+use Rattle.c_typing.proofs.MadeCopiedStructs.{members_sized}
 use Rattle.c_typing.proofs.MadeCopiedForms.{Complete, Callable, kept_verdict, allowed, plain_form, complete_other, complete_function, complete_here, complete_cast, value_complete, result_complete, choice_complete, element_complete, field_complete}
 use Rattle.c_typing.proofs.MadeCopiedNames.{object_complete, function_full, parameter_complete}
 

@@ -14,7 +14,7 @@ use Rattle.c_typing.specs.Rules.{broken_if}
 use Rattle.c_typing.specs.Expressions.{element_type, element_typing, field_of, no_field, sign_typing}
 use Rattle.c_typing.proofs.MadeJudged.{Yields, IsFront}
 use Rattle.c_typing.proofs.MadeCopiedSizes.{is_hollow}
-use Rattle.c_typing.proofs.MadeCopiedStructs.{Sized, sized_from, sized_on}
+use Rattle.c_typing.proofs.MadeCopiedMembers.{Sized, sized_from, sized_on}
 
 -- from a node on, the type is complete where it is a struct
 abbrev pub Complete : Places → ℕ → CType → Type 0

@@ -47,7 +47,7 @@ use Rattle.c_typing.proofs.Made.{IsMeaningful}
 use Rattle.c_typing.proofs.MadeMeant.{meaningful}
 use Rattle.c_typing.proofs.MadeCopiedSizes.{is_hollow}
 use Rattle.c_typing.proofs.MadeCopiedTypes.{type_full}
-use Rattle.c_typing.proofs.MadeCopiedStructs.{Sized, sized_from, sized_on}
+use Rattle.c_typing.proofs.MadeCopiedMembers.{Sized, sized_from, sized_on}
 use Rattle.c_typing.proofs.MadeCopiedForms.{Complete, allowed, complete_other}
 
 object_front : (p : Places) (js : List Judgement) (x : Name) (u : CType) (n : ℕ) (y : Entity) → is_object_entity y ≡ true → declared_faults p js x u n false y ≡ [] → object_size (layouts js) u n ≡ []

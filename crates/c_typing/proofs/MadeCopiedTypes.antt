@@ -49,9 +49,6 @@ module _ (tokens : List Token) (t : Tree) (derived : IsTreeOf tokens t) (quiet :
   l : AreLinked (category_at t) (nodes t)
   l = are_linked tokens t derived
 
-  abbrev pub Elements : Node → List PlacedStep → Type 0
-  Elements node ss = AllWithElements ss
-
   full_chains : Chains t (λ node ss. AllWithElements ss)
   full_chains = record {
     name = λ node h e. tt;
