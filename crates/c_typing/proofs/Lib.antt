@@ -134,3 +134,11 @@ pub mod MadeMeant
 pub mod MadeWords
 pub mod MadeWordsTrees
 pub mod MadeWordsNames
+pub mod MadeCopiedSizes
+pub mod MadeCopiedTypes
+pub mod MadeCopiedMembers
+pub mod MadeCopiedStructs
+pub mod MadeCopiedForms
+pub mod MadeCopiedNames
+pub mod MadeCopiedCode
+pub mod MadeCopied

@@ -145,7 +145,7 @@ module _ (tokens : List Token) (t : Tree) (derived : IsTreeOf tokens t) (quiet :
           of_steps (inr bare) =
               let s = specs_before (category_at t) (nodes t) l (kid outer 0) q.node q.at (ap is_part first.1) (ap (λ x. not (is_declarator x)) above) in
               let typed = ap (λ js. type_at js (specs_of (nodes t) (parent_of (nodes t) q.node.id)).id) early ∙ w.based in
-              let plain = specs_lengthy tokens t derived quiet (kid outer 0) (λ i lt. all_lengthy tokens t derived quiet i) (specs_of (nodes t) (parent_of (nodes t) q.node.id)).id s w.base typed in
+              let plain = specs_lengthy tokens t derived quiet is_unsized refl (λ i. refl) (λ i. refl) (kid outer 0) (λ i lt. all_lengthy tokens t derived quiet i) (specs_of (nodes t) (parent_of (nodes t) q.node.id)).id s w.base typed in
               absurd (true≢false (sym bare ∙ plain))
 
   -- ---- targets
