@@ -162,7 +162,7 @@ module _ (tokens : List Token) (t : Tree) (derived : IsTreeOf tokens t) where
   pub chains : Chains t Chain
   chains = record {
     name = name_chain;
-    step = λ node low ss st a b e c. step_chain node low a b (step_least node e) ss st e c;
+    step = λ node low ss st a b e h c. step_chain node low a b (step_least node e) ss st e c;
     takes = λ node low ss us a b e l c. takes_chain node low a b (one_least node kind.Takes e (omega arith)) ss us e l c;
     parentheses = λ node low ss a b e c. paren_chain node low a b (one_least node kind.Paren e (omega arith)) ss e c;
   }

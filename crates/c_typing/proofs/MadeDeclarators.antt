@@ -1,6 +1,6 @@
 -- What the declarators of a unit mean, where they keep the rules.
-use Rattle.std.proofs.Common.{◌≡◌, ◌⊎◌, inl, inr, ℕ, suc, ◌<◌, Bool, true, false, ◌||◌, List, [], ◌∷◌, length, map, Option, Some, None, refl, sym, ap, ◌∙◌, subst, arith, true≢false}
-use Rattle.std.specs.Prelude.{slice_get, if◌then◌else◌}
+use Rattle.std.proofs.Common.{◌≡◌, ◌⊎◌, inl, inr, ℕ, zero, suc, ◌<◌, Bool, true, false, ◌||◌, List, [], ◌∷◌, ◌++◌, length, map, Option, Some, None, refl, sym, ap, ◌∙◌, subst, arith, true≢false}
+use Rattle.std.specs.Prelude.{slice_get, if◌then◌else◌, ◌==◌}
 use Rattle.c_lexer.specs.declared.token.Token.{Token}
 use Rattle.c_syntax.specs.declared.kind.SynKind.{SynKind}
 use Rattle.c_syntax.specs.declared.kind.SynKind.TheVariants as kind
@@ -9,8 +9,8 @@ use Rattle.c_grammar.specs.Derivation.{IsTreeOf}
 use Rattle.c_typing.specs.Types.{CType, types_of}
 use Rattle.c_typing.specs.Places.{Node, nodes, kid, other_kids, parent_of, specs_of, is_declarator, is_whole, has_kid}
 use Rattle.c_typing.specs.Names.{places, name_of}
-use Rattle.c_typing.specs.Judgements.{Step, to_pointer, of_array, of_unsized, of_function, PlacedStep, Meaning, steps, declares, a_type, initialized, Typing, Fault, Judgement, means, verdict, judgement_at, typing_at, type_at, steps_at, steps_of, type_of, layouts, all_of, before}
-use Rattle.c_typing.specs.Rules.{absent_length}
+use Rattle.c_typing.specs.Judgements.{Step, to_pointer, of_array, of_unsized, of_function, PlacedStep, Meaning, steps, declares, a_type, initialized, Typing, Constant, number, Fault, Judgement, means, verdict, judgement_at, typing_at, type_at, steps_at, steps_of, type_of, layouts, all_of, before}
+use Rattle.c_typing.specs.Rules.{absent_length, bad_array_length, not_constant, out_of_range, is_negative, is_bad_length, broken_if}
 use Rattle.c_typing.specs.Declarators.{Built, built, build, adjusted, whole_by, whole_type, declarator, with_step, pointer_declarator, absent_length_step, length_faults, length_step, array_declarator, function_declarator, is_parameter_length, is_given_by_initializer, word_in}
 use Rattle.c_typing.specs.Typing.{in_parentheses, judged_by, judgements_at}
 use Rattle.c_typing.proofs.MadeJudged.{Yields, yields_besides, yields_given, IsFront, Known, all_known}
@@ -40,10 +40,28 @@ verdict_kept : (P : Meaning → Type 0) (fs : List Fault) (m : Meaning) → (fs 
 verdict_kept P [] m h = h refl
 verdict_kept P (f ∷ fs) m h = tt
 
+-- an array that is made by a step has an element
+abbrev pub HasElements : Step → Type 0
+HasElements (of_array n) = 0 < n
+HasElements s = Unit {0}
+
+-- a length that keeps the rules
+counted : (x : Typing) (n at : ℕ) → length_faults x n at ≡ [] → 0 < word_in x.constant
+counted x n at e = by x.type x.constant e
+  where
+    by : (u : CType) (c : Constant) → not_constant c n ++ out_of_range c ++ broken_if (is_bad_length u c) 7 at ≡ [] → 0 < word_in c
+    by u (number w) e = cases w (w == 0) refl e
+      where
+        cases : (v : ℕ) (b : Bool) → (v == 0) ≡ b → broken_if (b || is_negative u w) 7 at ≡ [] → 0 < v
+        cases v true f e = absurd (cc e)
+        cases zero false f e = absurd (true≢false f)
+        cases (suc v) false f e = omega arith
+    by u c e = absurd (cc e)
+
 -- what chains say of the steps of a declarator, from the name on
 pub record Chains (t : Tree) (C : Node → List PlacedStep → Type 0) : Type 0 where
   pub name : (node : Node) → In node (nodes t) → (node.label.kind ≡ kind.Ident) ⊎ (node.label.kind ≡ kind.NoName) → C node []
-  pub step : (node low : Node) (ss : List PlacedStep) (st : Step) → slice_get (nodes t) node.id ≡ Some node → slice_get (nodes t) (kid node 0) ≡ Some low → (node.label.kind ≡ kind.Pointer) ⊎ (node.label.kind ≡ kind.ArrayOf) → C low ss → C node (with_step ss node st)
+  pub step : (node low : Node) (ss : List PlacedStep) (st : Step) → slice_get (nodes t) node.id ≡ Some node → slice_get (nodes t) (kid node 0) ≡ Some low → (node.label.kind ≡ kind.Pointer) ⊎ (node.label.kind ≡ kind.ArrayOf) → HasElements st → C low ss → C node (with_step ss node st)
   pub takes : (node low : Node) (ss : List PlacedStep) (us : List CType) → slice_get (nodes t) node.id ≡ Some node → slice_get (nodes t) (kid node 0) ≡ Some low → node.label.kind ≡ kind.Takes → length us ≡ length (other_kids node) → C low ss → C node (with_step ss node (of_function (types_of us)))
   pub parentheses : (node low : Node) (ss : List PlacedStep) → slice_get (nodes t) node.id ≡ Some node → slice_get (nodes t) (kid node 0) ≡ Some low → node.label.kind ≡ kind.Paren → C low ss → C node ss
 
@@ -119,8 +137,8 @@ module _ (tokens : List Token) (t : Tree) (derived : IsTreeOf tokens t) (C : Nod
     low_chain : (e : is_step_kind node.label.kind ≡ true) → (ss : List PlacedStep) → steps_at js (kid node 0) ≡ Some ss → C (low e).node ss
     low_chain e ss g = (known (kid node 0) (steps ss) (steps_meant (judgement_at js (kid node 0)) ss g) (low e).node (low e).there).1
 
-    chain_step : (node.label.kind ≡ kind.Pointer) ⊎ (node.label.kind ≡ kind.ArrayOf) → (ss : List PlacedStep) → steps_at js (kid node 0) ≡ Some ss → (st : Step) → C node (with_step ss node st)
-    chain_step k ss g st = c.step node (low (of k)).node ss st at_own (low (of k)).there k (low_chain (of k) ss g)
+    chain_step : (node.label.kind ≡ kind.Pointer) ⊎ (node.label.kind ≡ kind.ArrayOf) → (ss : List PlacedStep) → steps_at js (kid node 0) ≡ Some ss → (st : Step) → HasElements st → C node (with_step ss node st)
+    chain_step k ss g st e = c.step node (low (of k)).node ss st at_own (low (of k)).there k e (low_chain (of k) ss g)
       where
         of : (node.label.kind ≡ kind.Pointer) ⊎ (node.label.kind ≡ kind.ArrayOf) → is_step_kind node.label.kind ≡ true
         of (inl e) = ap is_step_kind e
@@ -128,17 +146,17 @@ module _ (tokens : List Token) (t : Tree) (derived : IsTreeOf tokens t) (C : Nod
 
     pointer_row : node.label.kind ≡ kind.Pointer → Yields (Holds (length js)) (pointer_declarator (places t) js node)
     unfolding pointer_declarator
-    pointer_row e = yields_given (Holds (length js)) (steps_at js (kid node 0)) (λ ss. declarator (places t) js node (with_step ss node to_pointer)) (λ ss g. declarator_row (ap is_declarator e) (with_step ss node to_pointer) (chain_step (inl e) ss g to_pointer))
+    pointer_row e = yields_given (Holds (length js)) (steps_at js (kid node 0)) (λ ss. declarator (places t) js node (with_step ss node to_pointer)) (λ ss g. declarator_row (ap is_declarator e) (with_step ss node to_pointer) (chain_step (inl e) ss g to_pointer tt))
 
     absent_row : node.label.kind ≡ kind.ArrayOf → (ss : List PlacedStep) → steps_at js (kid node 0) ≡ Some ss → Yields (Holds (length js)) (absent_length_step (places t) js node ss)
     unfolding absent_length_step
-    absent_row e ss g = yields_if (Holds (length js)) (is_parameter_length (places t) node) _ (if is_given_by_initializer (places t) node then declarator (places t) js node (with_step ss node of_unsized) else verdict (absent_length node.id) (steps ss)) (declarator_row (ap is_declarator e) (with_step ss node Step.of_parameter) (chain_step (inr e) ss g Step.of_parameter))
-        (yields_if (Holds (length js)) (is_given_by_initializer (places t) node) (declarator (places t) js node (with_step ss node of_unsized)) (verdict (absent_length node.id) (steps ss)) (declarator_row (ap is_declarator e) (with_step ss node of_unsized) (chain_step (inr e) ss g of_unsized)) tt)
+    absent_row e ss g = yields_if (Holds (length js)) (is_parameter_length (places t) node) _ (if is_given_by_initializer (places t) node then declarator (places t) js node (with_step ss node of_unsized) else verdict (absent_length node.id) (steps ss)) (declarator_row (ap is_declarator e) (with_step ss node Step.of_parameter) (chain_step (inr e) ss g Step.of_parameter tt))
+        (yields_if (Holds (length js)) (is_given_by_initializer (places t) node) (declarator (places t) js node (with_step ss node of_unsized)) (verdict (absent_length node.id) (steps ss)) (declarator_row (ap is_declarator e) (with_step ss node of_unsized) (chain_step (inr e) ss g of_unsized tt)) tt)
 
     length_row : node.label.kind ≡ kind.ArrayOf → (ss : List PlacedStep) → steps_at js (kid node 0) ≡ Some ss → (x : Typing) (fs : List Fault) → length_faults x (kid node 1) node.id ≡ fs → Yields (Holds (length js)) (length_step (places t) js node ss x)
     unfolding length_step
-    length_row e ss g x [] h = rw h (yields_if (Holds (length js)) (is_parameter_length (places t) node) _ _ (declarator_row (ap is_declarator e) (with_step ss node Step.of_parameter) (chain_step (inr e) ss g Step.of_parameter)) (declarator_row (ap is_declarator e) (with_step ss node (of_array (word_in x.constant))) (chain_step (inr e) ss g (of_array (word_in x.constant)))))
-    length_row e ss g x (f ∷ fs) h = rw h (yields_if (Holds (length js)) (is_parameter_length (places t) node) _ _ (declarator_row (ap is_declarator e) (with_step ss node Step.of_parameter) (chain_step (inr e) ss g Step.of_parameter)) tt)
+    length_row e ss g x [] h = rw h (yields_if (Holds (length js)) (is_parameter_length (places t) node) _ _ (declarator_row (ap is_declarator e) (with_step ss node Step.of_parameter) (chain_step (inr e) ss g Step.of_parameter tt)) (declarator_row (ap is_declarator e) (with_step ss node (of_array (word_in x.constant))) (chain_step (inr e) ss g (of_array (word_in x.constant)) (counted x (kid node 1) node.id h))))
+    length_row e ss g x (f ∷ fs) h = rw h (yields_if (Holds (length js)) (is_parameter_length (places t) node) _ _ (declarator_row (ap is_declarator e) (with_step ss node Step.of_parameter) (chain_step (inr e) ss g Step.of_parameter tt)) tt)
 
     array_row : node.label.kind ≡ kind.ArrayOf → Yields (Holds (length js)) (array_declarator (places t) js node)
     unfolding array_declarator

@@ -177,7 +177,7 @@ module _ (tokens : List Token) (t : Tree) (derived : IsTreeOf tokens t) where
   Anything node ss = Unit {0}
 
   pub no_chains : Chains t Anything
-  no_chains = record { name = λ node h e. tt; step = λ node low ss st a b e h. tt; takes = λ node low ss us a b e l h. tt; parentheses = λ node low ss a b e h. tt }
+  no_chains = record { name = λ node h e. tt; step = λ node low ss st a b e i h. tt; takes = λ node low ss us a b e l h. tt; parentheses = λ node low ss a b e h. tt }
 
   function_kept : (p : Places) (js : List Judgement) (node : Node) (u : CType) (o : Option Name) (name : Name) (k : SynKind) → k ≡ kind.Function → o ≡ Some name → name.entity ≡ function_name → whole_by p js node u o k ≡ []
       → (is_some (own_takes p.nodes (parent_of p.nodes node.id)) ≡ true) × (declared_faults p js name u node.id true function_name ≡ [])

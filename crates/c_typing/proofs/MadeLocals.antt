@@ -56,7 +56,7 @@ declared_no_parameter s specs c f = by (says s (codes "typedef") specs) f (is_fi
     by false false true = refl
     by false false false = refl
 
-owner_of_parameter : (s : List Node) (owner specs : Node) (c : Scope) (f : Bool) (k : SynKind) (j : ℕ) → entity_by s owner specs c f k ≡ Some (parameter j) → (k ≡ kind.Param) × (j ≡ index_in (other_kids (node_at s owner.parent)) owner.id)
+pub owner_of_parameter : (s : List Node) (owner specs : Node) (c : Scope) (f : Bool) (k : SynKind) (j : ℕ) → entity_by s owner specs c f k ≡ Some (parameter j) → (k ≡ kind.Param) × (j ≡ index_in (other_kids (node_at s owner.parent)) owner.id)
 owner_of_parameter s owner specs c f kind.Param j e = (refl, number (cc e))
   where
     number : parameter (index_in (other_kids (node_at s owner.parent)) owner.id) ≡ parameter j → j ≡ index_in (other_kids (node_at s owner.parent)) owner.id

@@ -51,7 +51,7 @@ again_refused p e a z f g = last_false _ (is_initialized p e) (list_any (is_init
     last_false x false c h i = absurd (true≢false (sym h))
     last_false x b false h i = absurd (true≢false (sym i))
 
-twice : (p : Places) (e a : Name) (u : CType) (o : Option CType) (n : ℕ) → In a (earlier p e) → is_initialized p e ≡ true → is_initialized p a ≡ true → declared_twice p e u o n ≡ [] → ⊥
+pub twice : (p : Places) (e a : Name) (u : CType) (o : Option CType) (n : ℕ) → In a (earlier p e) → is_initialized p e ≡ true → is_initialized p a ≡ true → declared_twice p e u o n ≡ [] → ⊥
 twice p e a u o n h f g k = by (last_there (earlier p e) a None h)
   where
     by : (z : Name) × (last_or None (earlier p e) ≡ Some z) → ⊥

@@ -98,10 +98,10 @@ greatest_is (m ∷ ms) h = more m.align (greatest_align ms) (h.0).align (greates
 multiple : (align from : ℕ) → IsAlignment align → least_multiple align from % align ≡ 0
 multiple align from h = mul-mod_left ((from + (align - 1)) / align) align
 
-struct_aligned : (ms : List Measure) → AllByRecursion IsAligned ms → IsAligned (struct_measure ms)
+pub struct_aligned : (ms : List Measure) → AllByRecursion IsAligned ms → IsAligned (struct_measure ms)
 struct_aligned ms h = record { align = greatest_is ms h; whole = multiple (greatest_align ms) (end_of ms) (greatest_is ms h) }
 
-members_aligned : (ls : List Layout) (fields : List Field) → AllAligned ls → AllByRecursion IsAligned (map (λ (f : Field). unwrap_or (measure ls f.type) no_measure) fields)
+pub members_aligned : (ls : List Layout) (fields : List Field) → AllAligned ls → AllByRecursion IsAligned (map (λ (f : Field). unwrap_or (measure ls f.type) no_measure) fields)
 members_aligned ls [] h = tt
 members_aligned ls (f ∷ fields) h = (aligned ls f.type h, members_aligned ls fields h)
 

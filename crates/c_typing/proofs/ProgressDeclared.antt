@@ -109,7 +109,7 @@ pub record IsDeclaredName (cat : ℕ → Category) (ns : List Node) (e : Name) :
 abbrev pub Stands : (ℕ → Category) → List Node → Name → Type 0
 Stands cat ns e = IsEnumerator ns e ⊎ IsDeclaredName cat ns e
 
-entity_no_enumerator : (s : List Node) (owner specs : Node) (c : Scope) (f : Bool) (k : SynKind) (x : Entity) → entity_by s owner specs c f k ≡ Some x → is_enumerator_entity x ≡ false
+pub entity_no_enumerator : (s : List Node) (owner specs : Node) (c : Scope) (f : Bool) (k : SynKind) (x : Entity) → entity_by s owner specs c f k ≡ Some x → is_enumerator_entity x ≡ false
 entity_no_enumerator s owner specs c f kind.InitDecl x e =
     ap is_enumerator_entity (sym (entity_same e)) ∙ declared (says s (codes "typedef") specs) f (is_file_scope s c || says s (codes "static") specs || says s (codes "extern") specs)
   where

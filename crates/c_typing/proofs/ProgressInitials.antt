@@ -34,14 +34,14 @@ no e = absurd (true≢false (sym e))
 
 -- ---- the index of a kid
 
-first_place : (ks : List ℕ) (i j : ℕ) → slice_get ks i ≡ Some j → ((k a : ℕ) → k < i → slice_get ks k ≡ Some a → (a == j) ≡ false) → position_or_len (λ m. m == j) ks ≡ i
+pub first_place : (ks : List ℕ) (i j : ℕ) → slice_get ks i ≡ Some j → ((k a : ℕ) → k < i → slice_get ks k ≡ Some a → (a == j) ≡ false) → position_or_len (λ m. m == j) ks ≡ i
 first_place [] i j e f = absurd (cc e)
 first_place (x ∷ ks) zero j e f = ap (λ b. if not b then 1 + position_or_len (λ m. m == j) ks else 0) ((Decides-eqb x j).1 (some_same e))
 first_place (x ∷ ks) (suc i) j e f =
     let later = first_place ks i j e (λ k a lt at. f (suc k) a (omega (arith, lt)) at) in
     ap (λ b. if not b then 1 + position_or_len (λ m. m == j) ks else 0) (f 0 x (omega arith) refl) ∙ omega (arith, later)
 
-index_at : (ks : List ℕ) (i j : ℕ) → slice_get ks i ≡ Some j → i < length ks → position_or_len (λ m. m == j) ks ≡ i → index_in ks j ≡ i
+pub index_at : (ks : List ℕ) (i j : ℕ) → slice_get ks i ≡ Some j → i < length ks → position_or_len (λ m. m == j) ks ≡ i → index_in ks j ≡ i
 index_at ks i j e lt same =
     let test : nat_lt (position_or_len (λ m. m == j) ks) (length ks) ≡ true = grind (arith, nat_tests, same, lt) in
     ap (λ b. unwrap_or (if b then Some (position_or_len (λ m. m == j) ks) else None) 0) test ∙ same

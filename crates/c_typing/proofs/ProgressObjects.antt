@@ -106,7 +106,7 @@ module _ (tokens : List Token) (t : Tree) (derived : IsTreeOf tokens t) (quiet :
   pub stand : (e : Name) → InList (places t).names e → Stands (category_at t) (nodes t) e
   stand e m = at_name (Stands (category_at t) (nodes t)) (places t).names m.index e (all_names_stand (category_at t) (nodes t) (are_linked tokens t derived) (places t).scopes) m.at
 
-  order : InOrder 0 (places t).names
+  pub order : InOrder 0 (places t).names
   order = in_order (nodes t) (places t).scopes [] (nodes t) 0 (λ j m e. (l.shapes.tiled j m e).numbered ∙ sym (zero-add j)) tt tt
 
   pub named : (e : Name) → InList (places t).names e → name_of (places t) e.node ≡ Some e

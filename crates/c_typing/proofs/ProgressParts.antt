@@ -39,7 +39,7 @@ word_part true t e = no e
 word_part false true e = no e
 word_part false false e = no e
 
-part_declares : (k : SynKind) (text : List ℕ) (cs : List Category) → is_part (category_by k text cs) ≡ true → is_declarator k ≡ true
+pub part_declares : (k : SynKind) (text : List ℕ) (cs : List Category) → is_part (category_by k text cs) ≡ true → is_declarator k ≡ true
 unfolding category_by
 part_declares kind.Ident text cs e = refl
 part_declares kind.NoName text cs e = refl

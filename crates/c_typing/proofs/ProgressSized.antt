@@ -70,7 +70,7 @@ take_rest js zero = (js, by js)
 take_rest [] (suc n) = ([], refl)
 take_rest (j ∷ js) (suc n) = let r = take_rest js n in (r.0, ap (λ ks. j ∷ ks) r.1)
 
-sized_later : (js : List Judgement) (n : ℕ) (t : CType) → has_size (layouts (take n js)) t ≡ true → has_size (layouts js) t ≡ true
+pub sized_later : (js : List Judgement) (n : ℕ) (t : CType) → has_size (layouts (take n js)) t ≡ true → has_size (layouts js) t ≡ true
 sized_later js n t h =
     let r = take_rest js n in
     ap (λ ks. has_size (layouts ks) t) r.1 ∙ (ap (λ ls. has_size ls t) (layouts_front (take n js) r.0) ∙ measured_more (layouts (take n js)) (layouts r.0) t h)
@@ -90,7 +90,7 @@ module _ (tokens : List Token) (t : Tree) (derived : IsTreeOf tokens t) (quiet :
     initialized : has_kid d.owner 1 ≡ true
     element : has_size (layouts (take e.behind (judgements_at (places t)))) (element_of d.type) ≡ true
 
-  unmeasured : (e : Name) (de : IsDeclaredName (category_at t) (nodes t) e) → (node_at (nodes t) e.owner).label.kind ≡ kind.InitDecl → (d : Declared tokens t derived quiet e) → ((k : ℕ) → k < e.behind → Lengthy tokens t derived quiet k)
+  unmeasured : (e : Name) (de : IsDeclaredName (category_at t) (nodes t) e) → (node_at (nodes t) e.owner).label.kind ≡ kind.InitDecl → (d : Declared tokens t derived quiet e) → ((k : ℕ) → k < e.behind → Lengthy tokens t derived quiet is_unsized refl (λ k. refl) (λ k. refl) k)
       → is_unsized d.type ≡ true → Unmeasured e d
   unmeasured e de init d f h =
       by (unsized_from (layouts js) made.base made.steps made.fine (ap is_unsized (sym is) ∙ h)).from
@@ -127,13 +127,13 @@ module _ (tokens : List Token) (t : Tree) (derived : IsTreeOf tokens t) (quiet :
       by (inr base) =
           let s = specs_before (category_at t) (nodes t) l e.behind de.whole.node de.whole.at (ap is_part de.whole.is) de.whole.whole in
           let typed = ap (λ (x : Node). type_at js (specs_of (nodes t) (parent_of (nodes t) x.id)).id) (sym node) ∙ made.typed in
-          let plain = specs_lengthy tokens t derived quiet e.behind f (specs_of (nodes t) (parent_of (nodes t) de.whole.node.id)).id s made.base typed in
+          let plain = specs_lengthy tokens t derived quiet is_unsized refl (λ k. refl) (λ k. refl) e.behind f (specs_of (nodes t) (parent_of (nodes t) de.whole.node.id)).id s made.base typed in
           absurd (true≢false (sym base ∙ plain))
 
-  all_lengthy : (n : ℕ) → Lengthy tokens t derived quiet n
-  all_lengthy n = by_number (Lengthy tokens t derived quiet) step n
+  pub all_lengthy : (n : ℕ) → Lengthy tokens t derived quiet is_unsized refl (λ k. refl) (λ k. refl) n
+  all_lengthy n = by_number (Lengthy tokens t derived quiet is_unsized refl (λ k. refl) (λ k. refl)) step n
     where
-      step : (n : ℕ) → ((k : ℕ) → k < n → Lengthy tokens t derived quiet k) → Lengthy tokens t derived quiet n
+      step : (n : ℕ) → ((k : ℕ) → k < n → Lengthy tokens t derived quiet is_unsized refl (λ k. refl) (λ k. refl) k) → Lengthy tokens t derived quiet is_unsized refl (λ k. refl) (λ k. refl) n
       step n f e same m de typedef u is =
           let init = de.init_owner (or_second (is_static e.entity) (is_typedef e.entity) typedef) in
           let d = declared tokens t derived quiet e m de init in

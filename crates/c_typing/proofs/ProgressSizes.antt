@@ -9,7 +9,7 @@ use Rattle.c_syntax.specs.declared.kind.SynKind.TheVariants as kind
 use Rattle.c_syntax.specs.Trees.{Tree}
 use Rattle.c_grammar.specs.Derivation.{IsTreeOf}
 use Rattle.c_grammar.specs.Vocabulary.{is_type_word, is_storage_word}
-use Rattle.c_typing.specs.Types.{CType, is_unsized}
+use Rattle.c_typing.specs.Types.{CType, IntegerType, void, integer, struct}
 use Rattle.c_typing.specs.Places.{Node, nodes, kind_at, is_declarator, has_kid}
 use Rattle.c_typing.specs.Names.{Entity, typedef_name, Name, places, is_typedef, is_static, denoted}
 use Rattle.c_typing.specs.Judgements.{Judgement, means, breaks_rules, waits, Meaning, a_type, declares, judgement_at, type_at, type_of}
@@ -41,14 +41,14 @@ no e = absurd (true≢false (sym e))
 
 -- ---- kinds of specs
 
-over_no : (test : Category → Bool) → test category.declarator ≡ false → test category.abstract_declarator ≡ false → test category.no_category ≡ false → (cs : List Category) → test (declarator_over cs) ≡ false
+pub over_no : (test : Category → Bool) → test category.declarator ≡ false → test category.abstract_declarator ≡ false → test category.no_category ≡ false → (cs : List Category) → test (declarator_over cs) ≡ false
 over_no test d a n (category.declarator ∷ cs) = d
 over_no test d a n (category.abstract_declarator ∷ cs) = a
 over_no test d a n (category.no_name ∷ cs) = a
 over_no test d a n (_ ∷ cs) = n
 over_no test d a n [] = n
 
-brackets_no : (test : Category → Bool) → test category.declarator ≡ false → test category.abstract_declarator ≡ false → test category.no_category ≡ false → test (category.expression 0) ≡ false → (cs : List Category) → test (in_parentheses cs) ≡ false
+pub brackets_no : (test : Category → Bool) → test category.declarator ≡ false → test category.abstract_declarator ≡ false → test category.no_category ≡ false → test (category.expression 0) ≡ false → (cs : List Category) → test (in_parentheses cs) ≡ false
 brackets_no test d a n x (category.expression l ∷ cs) = x
 brackets_no test d a n x (category.declarator ∷ cs) = d
 brackets_no test d a n x (category.abstract_declarator ∷ cs) = a
@@ -61,7 +61,7 @@ word_no_specs true t = refl
 word_no_specs false true = refl
 word_no_specs false false = refl
 
-specs_kind : (k : SynKind) (text : List ℕ) (cs : List Category) → is_specs (category_by k text cs) ≡ true → k ≡ kind.Specs
+pub specs_kind : (k : SynKind) (text : List ℕ) (cs : List Category) → is_specs (category_by k text cs) ≡ true → k ≡ kind.Specs
 unfolding category_by
 specs_kind kind.Specs text cs e = refl
 specs_kind kind.Word text cs e = no (sym (word_no_specs (is_storage_word text) (is_type_word text)) ∙ e)
@@ -80,7 +80,7 @@ specifier_kind kind.ArrayOf text cs e = no (sym (over_no is_specifier refl refl 
 specifier_kind kind.Paren text cs e = no (sym (brackets_no is_specifier refl refl refl refl cs) ∙ e)
 specifier_kind _ text cs e = no e
 
-typed_specs : (outer own : SynKind) (j : Judgement) (u : CType) → fits outer own category.specifiers j ≡ true → type_of j ≡ Some u → j ≡ means (a_type u)
+pub typed_specs : (outer own : SynKind) (j : Judgement) (u : CType) → fits outer own category.specifiers j ≡ true → type_of j ≡ Some u → j ≡ means (a_type u)
 typed_specs outer own (means m) u f e = by m (split f).0 e
   where
     same : {x y : CType} → Some x ≡ Some y → x ≡ y
@@ -113,18 +113,18 @@ or_second false b e = e
 pub declares_same : {x y : CType} → means (declares x) ≡ means (declares y) → x ≡ y
 declares_same e = cc e
 
-module _ (tokens : List Token) (t : Tree) (derived : IsTreeOf tokens t) (quiet : faults t ≡ []) where
+module _ (tokens : List Token) (t : Tree) (derived : IsTreeOf tokens t) (quiet : faults t ≡ []) (test : CType → Bool) (none : test void ≡ false) (numbers : (k : IntegerType) → test (integer k) ≡ false) (structs : (k : ℕ) → test (struct k) ≡ false) where
   l : AreLinked (category_at t) (nodes t)
   l = are_linked tokens t derived
 
-  -- the type of a typedef name is no array without a length
+  -- the type of a typedef name does not pass the test
   abbrev pub Lengthy : ℕ → Type 0
   Lengthy n = (e : Name) → e.behind ≡ n → InList (places t).names e → IsDeclaredName (category_at t) (nodes t) e → is_typedef e.entity ≡ true
-      → (u : CType) → judgement_at (judgements_at (places t)) e.behind ≡ means (declares u) → is_unsized u ≡ false
+      → (u : CType) → judgement_at (judgements_at (places t)) e.behind ≡ means (declares u) → test u ≡ false
 
   -- nor is that of a name among specs before
   pub word_lengthy : (n : ℕ) → ((k : ℕ) → k < n → Lengthy k) → (k : ℕ) (m : Node) → slice_get (nodes t) k ≡ Some m → k < n
-      → (e : Name) (u : CType) → denoted (places t).names m.id m.label.text ≡ Some e → is_typedef e.entity ≡ true → type_of_name (take k (judgements_at (places t))) e ≡ Some u → is_unsized u ≡ false
+      → (e : Name) (u : CType) → denoted (places t).names m.id m.label.text ≡ Some e → is_typedef e.entity ≡ true → type_of_name (take k (judgements_at (places t))) e ≡ Some u → test u ≡ false
   word_lengthy n f k m at lt e u d typedef typed =
       let p = places t in
       let r = of_denoted (λ x. InList p.names x) p.names m.id m.label.text e (all_listed p.names) d in
@@ -135,14 +135,14 @@ module _ (tokens : List Token) (t : Tree) (derived : IsTreeOf tokens t) (quiet :
       js : List Judgement
       js = judgements_at (places t)
 
-      by : InList (places t).names e → Stands (category_at t) (nodes t) e → e.behind < n → is_unsized u ≡ false
+      by : InList (places t).names e → Stands (category_at t) (nodes t) e → e.behind < n → test u ≡ false
       by m (inl en) less = no (ap is_typedef (sym en.entity) ∙ typedef)
       by m (inr de) less = from (declared tokens t derived quiet e m de (de.init_owner (or_second (is_static e.entity) (is_typedef e.entity) typedef)))
         where
-          from : Declared tokens t derived quiet e → is_unsized u ≡ false
+          from : Declared tokens t derived quiet e → test u ≡ false
           from d = cases (type_at (take k js) e.owner) refl typed
             where
-              plain : is_unsized d.type ≡ false
+              plain : test d.type ≡ false
               plain = f e.behind less e refl m de typedef d.type d.declares
 
               whole : d.whole ≡ d.type
@@ -152,19 +152,19 @@ module _ (tokens : List Token) (t : Tree) (derived : IsTreeOf tokens t) (quiet :
                   how (inl h) = h.1
                   how (inr h) = absurd (no_object e.entity typedef h.0)
 
-              cases : (o : Option CType) → type_at (take k js) e.owner ≡ o → (if is_some o then o else type_at (take k js) e.behind) ≡ Some u → is_unsized u ≡ false
+              cases : (o : Option CType) → type_at (take k js) e.owner ≡ o → (if is_some o then o else type_at (take k js) e.behind) ≡ Some u → test u ≡ false
               cases (Some v) same h =
                   let equal : v ≡ u = some_same h in
                   let there = taken_at js k e.owner v same in
                   let owns : d.whole ≡ v = some_same (sym (ap type_of d.means_whole) ∙ there) in
-                  ap is_unsized (sym equal ∙ (sym owns ∙ whole)) ∙ plain
+                  ap test (sym equal ∙ (sym owns ∙ whole)) ∙ plain
               cases None same h =
                   let there = taken_at js k e.behind u h in
                   let owns : d.type ≡ u = some_same (sym (ap type_of d.declares) ∙ there) in
-                  ap is_unsized (sym owns) ∙ plain
+                  ap test (sym owns) ∙ plain
 
   -- nor is the type of specs
-  pub specs_lengthy : (n : ℕ) → ((k : ℕ) → k < n → Lengthy k) → (s : ℕ) → Before (category_at t) (nodes t) n s is_specs → (u : CType) → type_at (take n (judgements_at (places t))) s ≡ Some u → is_unsized u ≡ false
+  pub specs_lengthy : (n : ℕ) → ((k : ℕ) → k < n → Lengthy k) → (s : ℕ) → Before (category_at t) (nodes t) n s is_specs → (u : CType) → type_at (take n (judgements_at (places t))) s ≡ Some u → test u ≡ false
   specs_lengthy n f s b u typed =
       let p = places t in
       let js = judgements_at p in
@@ -177,9 +177,9 @@ module _ (tokens : List Token) (t : Tree) (derived : IsTreeOf tokens t) (quiet :
       let own = judged_at p (nodes t) s b.node b.at in
       let fit = of.of_specs b.node.label.text (map (category_at t) b.node.kids) (ap (λ k. kids_fit k b.node.label.text (map (category_at t) b.node.kids)) (sym same) ∙ shape.kids) in
       let less = b.less in
-      (specs_plain p (take s js) b.node (λ i k at. kids fit i k at)).plain u (ap (λ k. judged_by p (take s js) b.node k) (sym same) ∙ (sym own ∙ is))
+      (specs_plain test none numbers structs p (take s js) b.node (λ i k at. kids fit i k at)).plain u (ap (λ k. judged_by p (take s js) b.node k) (sym same) ∙ (sym own ∙ is))
     where
-      kids : list_all is_specifier (map (category_at t) b.node.kids) ≡ true → (i k : ℕ) → slice_get b.node.kids i ≡ Some k → Plain (judgement_at (take s (judgements_at (places t))) k)
+      kids : list_all is_specifier (map (category_at t) b.node.kids) ≡ true → (i k : ℕ) → slice_get b.node.kids i ≡ Some k → Plain test (judgement_at (take s (judgements_at (places t))) k)
       kids fit i k at =
           let p = places t in
           let js = judgements_at p in
@@ -189,12 +189,12 @@ module _ (tokens : List Token) (t : Tree) (derived : IsTreeOf tokens t) (quiet :
           let c = at_all (category_at t) is_specifier b.node.kids i k fit at in
           let shape = l.shapes.shaped k q.node q.at in
           let own = earlier_at js s k q.less ∙ judged_at p (nodes t) k q.node q.at in
-          subst (λ (j : Judgement). Plain j) (sym own) (by q.node q.at (omega (arith, below, less)) (specifier_kind q.node.label.kind q.node.label.text (map (category_at t) q.node.kids) (ap is_specifier (sym shape.category) ∙ c)))
+          subst (λ (j : Judgement). Plain test j) (sym own) (by q.node q.at (omega (arith, below, less)) (specifier_kind q.node.label.kind q.node.label.text (map (category_at t) q.node.kids) (ap is_specifier (sym shape.category) ∙ c)))
         where
           by : (m : Node) → slice_get (nodes t) k ≡ Some m → k < n → (m.label.kind ≡ kind.Word) ⊎ ((m.label.kind ≡ kind.StructSpec) ⊎ (m.label.kind ≡ kind.EnumSpec))
-              → Plain (judged_by (places t) (take k (judgements_at (places t))) m m.label.kind)
+              → Plain test (judged_by (places t) (take k (judgements_at (places t))) m m.label.kind)
           by m e lt (inl same) =
-              subst (λ (x : SynKind). Plain (judged_by (places t) (take k (judgements_at (places t))) m x)) (sym same)
-              (word_plain (places t) (take k (judgements_at (places t))) m (λ e2 u2 d2 t2 ty. word_lengthy n f k m e lt e2 u2 d2 t2 ty))
-          by m e lt (inr (inl same)) = subst (λ (x : SynKind). Plain (judged_by (places t) (take k (judgements_at (places t))) m x)) (sym same) (struct_plain (places t) (take k (judgements_at (places t))) m)
-          by m e lt (inr (inr same)) = subst (λ (x : SynKind). Plain (judged_by (places t) (take k (judgements_at (places t))) m x)) (sym same) (enum_plain (places t) (take k (judgements_at (places t))) m)
+              subst (λ (x : SynKind). Plain test (judged_by (places t) (take k (judgements_at (places t))) m x)) (sym same)
+              (word_plain test none numbers structs (places t) (take k (judgements_at (places t))) m (λ e2 u2 d2 t2 ty. word_lengthy n f k m e lt e2 u2 d2 t2 ty))
+          by m e lt (inr (inl same)) = subst (λ (x : SynKind). Plain test (judged_by (places t) (take k (judgements_at (places t))) m x)) (sym same) (struct_plain test none numbers structs (places t) (take k (judgements_at (places t))) m)
+          by m e lt (inr (inr same)) = subst (λ (x : SynKind). Plain test (judged_by (places t) (take k (judgements_at (places t))) m x)) (sym same) (enum_plain test none numbers structs (places t) (take k (judgements_at (places t))) m)

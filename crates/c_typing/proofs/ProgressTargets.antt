@@ -80,7 +80,7 @@ module _ (p : Places) (js rest : List Judgement) where
       (by_kind (parent_of p.nodes n) n (target_within p js d (parent_of p.nodes n).id) (target_within p (js ++ rest) (d + more) (parent_of p.nodes n).id) t (parent_of p.nodes n).label.kind
       (λ v h. within_later d more (parent_of p.nodes n).id v h) e)
 
-take_split : (js : List Judgement) (a b : ℕ) → a ≤ b → (rest : List Judgement) × (take b js ≡ take a js ++ rest)
+pub take_split : (js : List Judgement) (a b : ℕ) → a ≤ b → (rest : List Judgement) × (take b js ≡ take a js ++ rest)
 take_split js zero b le = (take b js, take_none b js)
   where
     take_none : (b : ℕ) (js : List Judgement) → take b js ≡ take 0 js ++ take b js
