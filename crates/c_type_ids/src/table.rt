@@ -195,6 +195,7 @@ impl TypeTable {
     pub fn is_same(&self, left: TypeId, right: TypeId) -> bool
         ensures { (t u : CType) → Names self.now left t → Names self.now right u → result ≡ same t u }
     {
+        // Reading the field makes the invariant of the table known to the proof.
         let _ = &self.types;
         left.number == right.number
     }
@@ -203,6 +204,7 @@ impl TypeTable {
     pub fn is_same_struct(&self, left: StructId, right: StructId) -> bool
         ensures { (a b : ℕ) → struct_by self.now.structs a ≡ Some left → struct_by self.now.structs b ≡ Some right → result ≡ (a == b) }
     {
+        // Reading the field makes the invariant of the table known to the proof.
         let _ = &self.types;
         left.number == right.number
     }

@@ -2,10 +2,10 @@
 
 use c_constants::Constant;
 use c_type_ids::{Integer, TypeTable};
-use c_types::{Expr, TypeList};
+use c_types::{Expr, TypeFault, TypeList};
 use c_values::{
-    Form, Type, Typing, binary, both, choose, convert, copy, either, load, seq, set_local, store,
-    value_of,
+    Form, Type, Typing, binary, both, choose, convert, converted, copy, either, load, seq,
+    set_local, store, value_of,
 };
 use cp_base::{Kind as Access, To};
 use std::alloc::{AllocError, Global};
@@ -35,6 +35,22 @@ fn structs_without_members(rt: HostRuntime) {
     assert!(rt; matches!(size_of_struct(rt.alloc()), Ok(None)));
 }
 
+// The size of three `short`s.
+fn size_of_array(alloc: Global) -> Result<Option<u32>, TypeFault> {
+    let mut table = TypeTable::new(alloc, 0)?;
+    let short = table.integer(Integer::Short)?;
+    if table.size(short).is_none() {
+        return Ok(None);
+    }
+    let array = table.array(short, 3)?;
+    Ok(table.size(array))
+}
+
+#[test]
+fn arrays(rt: HostRuntime) {
+    assert!(rt; matches!(size_of_array(rt.alloc()), Ok(Some(6))));
+}
+
 // The value of a `short` in memory.
 fn read(alloc: Global) -> Result<Typing, AllocError> {
     let mut table = TypeTable::new(alloc, 0)?;
@@ -60,6 +76,25 @@ fn a_value_is_read(rt: HostRuntime) {
             })
         )
     );
+}
+
+// The code of an `int` that becomes a `short`.
+fn narrowed(alloc: Global) -> Result<Expr, AllocError> {
+    let mut table = TypeTable::new(alloc, 0)?;
+    let int = table.integer(Integer::Int)?;
+    let short = table.integer(Integer::Short)?;
+    converted(
+        alloc,
+        &table,
+        Type::Known(int),
+        Type::Known(short),
+        Expr::Local(0),
+    )
+}
+
+#[test]
+fn a_value_is_narrowed(rt: HostRuntime) {
+    assert!(rt; matches!(narrowed(rt.alloc()), Ok(Expr::Convert(To::I16, _))));
 }
 
 // An expression of each form that is made of parts.
