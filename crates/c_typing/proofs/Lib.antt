@@ -124,11 +124,14 @@ pub mod MadeCellsInitialized
 pub mod MadeCellsData
 pub mod MadeCellsApart
 pub mod MadeCellsSame
+pub mod MadeInitials
+pub mod MadeCellsAgain
+pub mod MadeCellsInside
 pub mod MadeTyped
 pub mod MadeProto
 pub mod MadeCalls
 pub mod MadeCalled
-pub mod Made
+pub mod MadeUnit
 pub mod RowsWords
 pub mod MadeMeant
 pub mod MadeWords

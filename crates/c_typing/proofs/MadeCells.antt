@@ -1,12 +1,12 @@
 -- Cells that stand apart within bounds: those of a text, of a constant, moved ones, and those of parts in order.
-use Rattle.std.proofs.Common.{◌≡◌, ◌⊎◌, inl, inr, ℕ, zero, suc, ◌+◌, ◌*◌, ◌<◌, ◌≤◌, Bool, true, false, ◌||◌, List, [], ◌∷◌, ◌++◌, length, map, Option, Some, None, refl, sym, ap, ◌∙◌, subst, arith, true≢false}
+use Rattle.std.proofs.Common.{◌≡◌, inl, inr, ℕ, ◌+◌, ◌≤◌, Bool, true, false, ◌||◌, List, [], ◌∷◌, ◌++◌, length, map, Option, Some, None, sym, subst, arith}
 use Rattle.std.specs.Prelude.{if◌then◌else◌, flat_map}
 use Rattle.std.specs.List.{AllByRecursion}
 use Rattle.c_types.specs.declared.tree.Cell.{Cell}
 use Rattle.c_types.specs.declared.tree.CellValue.{CellValue}
 use Rattle.c_types.specs.WellMade.{end_of_cell, AreApart, AllApart}
-use Rattle.c_typing.specs.Types.{CType, void, integer, pointer, array, unsized, struct, function, Layout, size_of, is_array, is_struct}
-use Rattle.c_typing.specs.Judgements.{Constant, number, address_of, Typing, Fault}
+use Rattle.c_typing.specs.Types.{CType, Layout, size_of, is_array, is_struct}
+use Rattle.c_typing.specs.Judgements.{Constant, number, address_of, Typing}
 use Rattle.c_typing.specs.Conversions.{value_of}
 use Rattle.c_typing.specs.Rules.{bad_initializer}
 use Rattle.c_typing.specs.Initializers.{constant_cell, text_cells, moved, Part, part, scalar_part, value_part}

@@ -1,28 +1,25 @@
 -- Of all declarations of an object one has cells, so the cells of each object stand apart.
-use Rattle.std.proofs.Common.{◌≡◌, ◌⊎◌, inl, inr, ℕ, zero, suc, ◌+◌, ◌<◌, ◌≤◌, Bool, true, false, ◌&&◌, cond, List, [], ◌∷◌, ◌++◌, map, Option, Some, None, refl, sym, ap, ap₂, ◌∙◌, subst, arith, true≢false}
-use Rattle.std.specs.Prelude.{slice_get, take, filter, flat_map, nat_lt, ◌==◌}
+use Rattle.std.proofs.Common.{◌≡◌, ◌⊎◌, inl, inr, ℕ, suc, ◌<◌, ◌≤◌, Bool, true, false, ◌&&◌, cond, List, [], ◌∷◌, ◌++◌, map, Some, refl, sym, ap, ap₂, ◌∙◌, subst, arith, true≢false}
+use Rattle.std.specs.Prelude.{slice_get, take, filter, nat_lt}
 use Rattle.std.specs.List.{AllByRecursion}
 use Rattle.c_lexer.specs.declared.token.Token.{Token}
-use Rattle.c_syntax.specs.declared.kind.SynKind.{SynKind}
 use Rattle.c_syntax.specs.declared.kind.SynKind.TheVariants as kind
 use Rattle.c_syntax.specs.Trees.{Tree}
 use Rattle.c_grammar.specs.Derivation.{IsTreeOf}
-use Rattle.c_types.specs.declared.tree.Cell.{Cell}
 use Rattle.c_types.specs.declared.tree.Object.{Object}
-use Rattle.c_types.specs.declared.tree.Unit.{Unit as Whole}
 use Rattle.c_types.specs.WellMade.{AllApart, InEveryObject}
 use Rattle.c_typing.specs.Types.{CType, size_of}
 use Rattle.c_typing.specs.Places.{Node, nodes, node_at, has_kid, parent_of, specs_of}
-use Rattle.c_typing.specs.Names.{Entity, typedef_name, function_name, static_object, automatic, parameter, enumerator, Places, places, Name, name_of, is_again, earlier, is_initialized, objects_of}
+use Rattle.c_typing.specs.Names.{Entity, typedef_name, function_name, static_object, automatic, parameter, enumerator, Places, places, Name, name_of, is_again, is_initialized, objects_of}
 use Rattle.c_typing.specs.Judgements.{initialized, Judgement, means, judgement_at, layouts}
 use Rattle.c_typing.specs.Rules.{declared_twice, bad_library_name, bad_main, local_array_or_struct}
 use Rattle.c_typing.specs.Declarators.{whole_by, declared_faults, name_faults, object_size, parameter_size, type_before}
 use Rattle.c_typing.specs.Shapes as category
 use Rattle.c_typing.specs.Shapes.{Category, category_by, stands_in}
 use Rattle.c_typing.specs.ShapesOfNodes.{category_at, HasParent}
-use Rattle.c_typing.specs.Typing.{judgements_at, faults, cells_in, declarations_of, object_of, literal_object, literals_of, data_of, unit_in, unit_of, IsTyped}
+use Rattle.c_typing.specs.Typing.{judgements_at, faults, cells_in, declarations_of, object_of, literal_object, literals_of, unit_in}
 use Rattle.c_typing.proofs.MadeNodes.{In}
-use Rattle.c_typing.proofs.MadeAround.{and_true, both_true}
+use Rattle.c_typing.proofs.MadeAround.{and_true}
 use Rattle.c_typing.proofs.MadeTexts.{front_none, back_none}
 use Rattle.c_typing.proofs.MadeOnce.{filter_in, twice}
 use Rattle.c_typing.proofs.MadeObjects.{again_back, again_through}
@@ -50,7 +47,7 @@ order_in k [] b h i = absurd i
 order_in k (x ∷ xs) b h (inl same) = let low = h.0 in let is = ap (λ (y : Name). y.node) same in omega (arith, low, is)
 order_in k (x ∷ xs) b h (inr i) = let low = h.0 in let rest = order_in (suc x.node) xs b h.1 i in omega (arith, low, rest)
 
-all_filtered : (P : Name → Type 0) (f : Name → Bool) (xs : List Name) → ((b : Name) → In b xs → f b ≡ true → P b) → AllByRecursion P (filter f xs)
+pub all_filtered : (P : Name → Type 0) (f : Name → Bool) (xs : List Name) → ((b : Name) → In b xs → f b ≡ true → P b) → AllByRecursion P (filter f xs)
 all_filtered P f [] h = tt
 all_filtered P f (x ∷ xs) h = by (f x) refl (all_filtered P f xs (λ b i g. h b (inr i) g))
   where
@@ -66,7 +63,7 @@ two_filtered R f k (x ∷ xs) o h = by (f x) refl (two_filtered R f (suc x.node)
     by true g rest = (all_filtered (R x) f xs (λ b i e. h x b (inl refl) (inr i) (order_in (suc x.node) xs b o.1 i) g e), rest)
     by false g rest = rest
 
-listed : (xs : List Name) (x : Name) → In x xs → InList xs x
+pub listed : (xs : List Name) (x : Name) → In x xs → InList xs x
 listed [] x h = absurd h
 listed (y ∷ xs) x (inl same) = record { index = 0; at = ap Some same }
 listed (y ∷ xs) x (inr h) = let r = listed xs x h in record { index = suc r.index; at = r.at }
@@ -86,10 +83,10 @@ module _ (tokens : List Token) (t : Tree) (derived : IsTreeOf tokens t) (quiet :
 
   -- a declaration with cells has an initializer
   pub record HasCells (a : Name) : Type 0 where
-    init : (node_at (nodes t) a.owner).label.kind ≡ kind.InitDecl
-    initial : is_initialized (places t) a ≡ true
+    pub init : (node_at (nodes t) a.owner).label.kind ≡ kind.InitDecl
+    pub initial : is_initialized (places t) a ≡ true
 
-  none_or : (a : Name) → (cells_in (judgement_at (judgements_at (places t)) a.owner) ≡ []) ⊎ HasCells a
+  pub none_or : (a : Name) → (cells_in (judgement_at (judgements_at (places t)) a.owner) ≡ []) ⊎ HasCells a
   none_or a = by (judgement_at (judgements_at (places t)) a.owner) (cells_kept tokens t derived quiet a.owner (judgement_at (judgements_at (places t)) a.owner) refl)
     where
       by : (j : Judgement) → CellsOf tokens t derived quiet a.owner j → (cells_in j ≡ []) ⊎ HasCells a
@@ -100,29 +97,37 @@ module _ (tokens : List Token) (t : Tree) (derived : IsTreeOf tokens t) (quiet :
           one (inr s) = inr (record { init = ap (λ (m : Node). m.label.kind) (found_at (nodes t) a.owner h.0 h.1) ∙ h.2; initial = ap (λ (m : Node). has_kid m 1) (found_at (nodes t) a.owner h.0 h.1) ∙ s.0 })
       by _ h = inl refl
 
+  -- what is asked of a name in the light of those before
+  pub once_kept : (b : Name) → InList (places t).names b → IsDeclaredName (category_at t) (nodes t) b → (node_at (nodes t) b.owner).label.kind ≡ kind.InitDecl → (d : Declared tokens t derived quiet b)
+      → declared_twice (places t) b d.type (type_before (places t) (take b.behind (judgements_at (places t))) b) b.node ≡ []
+  once_kept b m de init d =
+      let p = places t in
+      let node = found_at (nodes t) b.behind de.whole.node de.whole.at in
+      let number = (l.shapes.tiled b.behind de.whole.node de.whole.at).numbered in
+      let owner : (parent_of (nodes t) (node_at (nodes t) b.behind).id).label.kind ≡ kind.InitDecl =
+      ap (λ (z : Node). (parent_of (nodes t) z.id).label.kind) node
+      ∙ (ap (λ i. (parent_of (nodes t) i).label.kind) number
+      ∙ (ap (λ (z : Node). (node_at (nodes t) z.parent).label.kind) node ∙ (ap (λ i. (node_at (nodes t) i).label.kind) (sym de.owner) ∙ init))) in
+      let name : name_of p (node_at (nodes t) b.behind).first ≡ Some b = ap (λ (z : Node). name_of p z.first) node ∙ (ap (λ i. name_of p i) de.first ∙ named tokens t derived quiet b m) in
+      let js = take b.behind (judgements_at p) in
+      let keeps : declared_faults p js b d.type (node_at (nodes t) b.behind).id false b.entity ≡ [] = ap₂ (λ o k. whole_by p js (node_at (nodes t) b.behind) d.type o k) (sym name) (sym owner) ∙ d.made.keeps in
+      once_of p js b d.type (node_at (nodes t) b.behind).id b.entity de.entity keeps
+
   -- a later one is refused
   refused : (a b : Name) → In a (places t).names → In b (places t).names → is_again a b ≡ true → a.behind < b.behind → IsDeclaredName (category_at t) (nodes t) b → HasCells a → HasCells b → ⊥
   refused a b i j again lt de x y =
       let p = places t in
       let m = listed p.names b j in
       let d = declared tokens t derived quiet b m de y.init in
-      let node = found_at (nodes t) b.behind de.whole.node de.whole.at in
-      let number = (l.shapes.tiled b.behind de.whole.node de.whole.at).numbered in
-      let owner : (parent_of (nodes t) (node_at (nodes t) b.behind).id).label.kind ≡ kind.InitDecl =
-      ap (λ (z : Node). (parent_of (nodes t) z.id).label.kind) node
-      ∙ (ap (λ i. (parent_of (nodes t) i).label.kind) number
-      ∙ (ap (λ (z : Node). (node_at (nodes t) z.parent).label.kind) node ∙ (ap (λ i. (node_at (nodes t) i).label.kind) (sym de.owner) ∙ y.init))) in
-      let name : name_of p (node_at (nodes t) b.behind).first ≡ Some b = ap (λ (z : Node). name_of p z.first) node ∙ (ap (λ i. name_of p i) de.first ∙ named tokens t derived quiet b m) in
-      let js = take b.behind (judgements_at p) in
-      let keeps : declared_faults p js b d.type (node_at (nodes t) b.behind).id false b.entity ≡ [] = ap₂ (λ o k. whole_by p js (node_at (nodes t) b.behind) d.type o k) (sym name) (sym owner) ∙ d.made.keeps in
-      twice p b a d.type (type_before p js b) b.node
+      twice p b a d.type (type_before p (take b.behind (judgements_at p)) b) b.node
       (filter_in (λ (z : Name). is_again z b && nat_lt z.behind b.behind) p.names a i (and_true (is_again a b) (nat_lt a.behind b.behind) again (low a.behind b.behind lt)))
-      y.initial x.initial (once_of p js b d.type (node_at (nodes t) b.behind).id b.entity de.entity keeps)
+      y.initial x.initial (once_kept b m de y.init d)
     where
       low : (i j : ℕ) → i < j → nat_lt i j ≡ true
       low i j h = grind arith
 
-  not_enumerator : (c : Name) → In c (places t).names → IsEnumerator (nodes t) c → HasCells c → ⊥
+  -- an enumerator has no cells
+  pub not_enumerator : (c : Name) → In c (places t).names → IsEnumerator (nodes t) c → HasCells c → ⊥
   unfolding category_by stands_in
   not_enumerator c i ec z = let n = (names_here tokens t derived).each c i in by n n.how
     where
@@ -187,8 +192,3 @@ module _ (tokens : List Token) (t : Tree) (derived : IsTreeOf tokens t) (quiet :
   pub cells_apart : InEveryObject (unit_in (places t) (judgements_at (places t))) (λ o. AllApart o.cells)
   cells_apart = all_joint (λ (o : Object). AllApart o.cells) (map (object_of (places t) (judgements_at (places t))) (objects_of (places t))) (map (λ (n : Node). literal_object n.label.bytes) (literals_of (places t) (judgements_at (places t))))
       (objects_apart (objects_of (places t))) (literals_apart (literals_of (places t) (judgements_at (places t))))
-
--- so do those of a typed unit
-pub typed_apart : (tokens : List Token) (t : Tree) (u : Whole) → IsTreeOf tokens t → IsTyped t u → InEveryObject u (λ o. AllApart o.cells)
-unfolding unit_of
-typed_apart tokens t u derived typed = subst (λ w. InEveryObject w (λ o. AllApart o.cells)) typed.unit (cells_apart tokens t derived typed.keeps)

@@ -1,21 +1,20 @@
 -- The cells of braces stand apart within the object that they initialize.
-use Rattle.std.proofs.Common.{◌≡◌, ◌⊎◌, inl, inr, ℕ, zero, suc, ◌+◌, ◌-◌, ◌*◌, ◌<◌, ◌≤◌, Bool, true, false, not, List, [], ◌∷◌, length, map, Option, Some, None, refl, sym, ap, ◌∙◌, subst, arith, true≢false, unwrap_or}
+use Rattle.std.proofs.Common.{◌≡◌, ◌⊎◌, inl, inr, ℕ, zero, suc, ◌+◌, ◌-◌, ◌*◌, ◌<◌, ◌≤◌, Bool, true, false, not, List, [], length, map, Option, Some, None, refl, sym, ap, ◌∙◌, subst, arith, true≢false, unwrap_or}
 use Rattle.std.proofs.Math.Nat.{mul-le-mul_right}
 use Rattle.std.specs.Prelude.{if◌then◌else◌, flat_map, nat_lt, slice_get, option_map, option_and_then, ◌&&◌, ◌==◌}
 use Rattle.std.specs.List.{range_with_len}
 use Rattle.c_syntax.specs.declared.kind.SynKind.{SynKind}
 use Rattle.c_syntax.specs.declared.kind.SynKind.TheVariants as kind
-use Rattle.c_types.specs.declared.tree.Cell.{Cell}
 use Rattle.std.specs.Option.{is_some}
-use Rattle.c_typing.specs.Types.{CType, void, integer, pointer, array, unsized, struct, function, Field, Layout, layout_of, has_size, no_measure, size_of, is_scalar, is_unsized, is_text_array}
+use Rattle.c_typing.specs.Types.{CType, void, integer, pointer, array, unsized, struct, function, Field, Layout, layout_of, no_measure, size_of, is_scalar, is_text_array}
 use Rattle.c_typing.specs.Places.{Node, node_at, kind_at, kid, is_string}
 use Rattle.c_typing.specs.Names.{Places}
-use Rattle.c_typing.specs.Judgements.{Fault, Judgement, layouts, all_of}
+use Rattle.c_typing.specs.Judgements.{Judgement, layouts, all_of}
 use Rattle.c_typing.specs.Rules.{bad_initializer}
-use Rattle.c_typing.specs.Initializers.{is_text_alone, part_type, part_offset, part_of, moved, Part, part, part_for, kid_part, has_part, too_many, count_in, completed, given_count}
+use Rattle.c_typing.specs.Initializers.{is_text_alone, part_type, part_offset, part_of, moved, Part, part, part_for, kid_part, too_many, count_in, completed, given_count}
 use Rattle.c_typing.proofs.MadeAround.{both_true, equal_so}
 use Rattle.c_typing.proofs.ProgressCompleted.{completed_other}
-use Rattle.c_typing.proofs.MadeCells.{Stand, no_cells, stand_wider, stand_moved, Row, stand_row}
+use Rattle.c_typing.proofs.MadeCells.{Stand, no_cells, stand_wider, stand_moved, stand_row}
 use Rattle.c_typing.proofs.MadeCellsParts.{rows, BracesStand, stand_for}
 use Rattle.c_typing.proofs.MadeCellsTypes.{AllLaid, MayHold, start, start_below, field_stands, none_start, array_size, sized_length, part_sized}
 

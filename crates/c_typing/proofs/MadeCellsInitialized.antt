@@ -1,21 +1,19 @@
 -- The cells of a declarator with its initializer stand apart within its type.
-use Rattle.std.proofs.Common.{◌≡◌, ◌⊎◌, inl, inr, ℕ, zero, suc, ◌+◌, ◌<◌, ◌≤◌, Bool, true, false, List, [], ◌∷◌, ◌++◌, length, map, Option, Some, None, refl, sym, ap, ◌∙◌, subst, arith, true≢false, unwrap_or}
+use Rattle.std.proofs.Common.{◌≡◌, ◌⊎◌, inl, inr, ℕ, true, false, List, [], ◌∷◌, Option, Some, None, refl, sym, ap, ◌∙◌, subst, arith}
 use Rattle.std.specs.Prelude.{slice_get, take, if◌then◌else◌}
 use Rattle.c_lexer.specs.declared.token.Token.{Token}
-use Rattle.c_syntax.specs.declared.kind.SynKind.{SynKind}
 use Rattle.c_syntax.specs.declared.kind.SynKind.TheVariants as kind
 use Rattle.c_syntax.specs.Trees.{Tree}
 use Rattle.c_grammar.specs.Derivation.{IsTreeOf}
-use Rattle.c_types.specs.declared.tree.Cell.{Cell}
 use Rattle.c_typing.specs.Types.{CType, size_of}
 use Rattle.c_typing.specs.Places.{Node, nodes, node_at, kind_at, parent_of, kid, has_kid}
-use Rattle.c_typing.specs.Names.{Name, Places, places, name_of, is_static}
-use Rattle.c_typing.specs.Judgements.{Fault, Meaning, initial, initialized, Judgement, means, verdict, given, judgement_at, type_at, layouts}
+use Rattle.c_typing.specs.Names.{Name, places, name_of, is_static}
+use Rattle.c_typing.specs.Judgements.{Fault, Meaning, initialized, Judgement, means, verdict, judgement_at, type_at, layouts}
 use Rattle.c_typing.specs.Rules.{bad_initializer}
-use Rattle.c_typing.specs.Initializers.{Part, part_for, completed, given_count, target, target_by, target_within, is_object, bare_code, object_code, completed_faults, initialized_object, init_by, init_declarator}
+use Rattle.c_typing.specs.Initializers.{Part, part_for, completed, given_count, target, target_by, target_within, is_object, bare_code, initialized_object, init_by, init_declarator}
 use Rattle.c_typing.specs.ShapesOfNodes.{category_at}
 use Rattle.c_typing.specs.Typing.{judged_by, judgements_at, faults}
-use Rattle.c_typing.proofs.MadeJudged.{Yields, yields_verdict, yields_given, yielded}
+use Rattle.c_typing.proofs.MadeJudged.{Yields, yields_given, yielded}
 use Rattle.c_typing.proofs.MadeForms.{yields_if_so}
 use Rattle.c_typing.proofs.MadeTexts.{front_none}
 use Rattle.c_typing.proofs.ProgressBase.{judged_at, earlier_at}

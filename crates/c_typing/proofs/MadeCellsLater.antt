@@ -1,10 +1,10 @@
 -- Sizes stay the same while more nodes are judged.
-use Rattle.std.proofs.Common.{◌≡◌, ◌⊎◌, inl, inr, ℕ, ◌≤◌, ◌*◌, Bool, true, false, List, [], ◌∷◌, ◌++◌, Option, Some, None, refl, sym, ap, ◌∙◌, subst, arith, true≢false, unwrap_or}
+use Rattle.std.proofs.Common.{◌≡◌, inl, inr, ℕ, ◌≤◌, ◌*◌, true, false, List, ◌++◌, Option, Some, None, refl, sym, ap, ◌∙◌, subst, true≢false, unwrap_or}
 use Rattle.std.specs.Prelude.{take, option_map, ◌==◌}
 use Rattle.std.specs.Option.{is_some}
 use Rattle.c_types.specs.declared.kind.Measure.{Measure}
 use Rattle.c_types.specs.Sizes.{array_measure}
-use Rattle.c_typing.specs.Types.{CType, void, integer, pointer, array, unsized, struct, function, Layout, layout_of, measure, no_measure, has_size, size_of, is_unsized, element_of}
+use Rattle.c_typing.specs.Types.{CType, void, integer, pointer, array, unsized, struct, function, Layout, layout_of, measure, no_measure, has_size, size_of, element_of}
 use Rattle.c_typing.specs.Judgements.{Judgement, layouts}
 use Rattle.c_typing.specs.Initializers.{completed}
 use Rattle.c_typing.proofs.ProgressTargets.{layouts_front, found_front, take_split}

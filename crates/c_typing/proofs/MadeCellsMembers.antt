@@ -1,6 +1,6 @@
 -- Each member of a struct has a size, so all structs are laid out within themselves.
-use Rattle.std.proofs.Common.{◌≡◌, ◌⊎◌, inl, inr, ℕ, zero, suc, ◌+◌, ◌<◌, ◌≤◌, Bool, true, false, ◌||◌, not, List, [], ◌∷◌, ◌++◌, length, map, Option, Some, None, refl, sym, ap, ◌∙◌, subst, arith, true≢false, unwrap_or}
-use Rattle.std.specs.Prelude.{slice_get, take, drop, flat_map, if◌then◌else◌, option_map}
+use Rattle.std.proofs.Common.{◌≡◌, inl, inr, ℕ, suc, ◌≤◌, Bool, true, false, ◌||◌, not, List, [], ◌∷◌, length, map, Option, Some, None, refl, sym, ap, ◌∙◌, subst, arith, true≢false}
+use Rattle.std.specs.Prelude.{slice_get, take, drop, flat_map, option_map}
 use Rattle.std.specs.List.{AllByRecursion, list_all}
 use Rattle.c_lexer.specs.declared.token.Token.{Token}
 use Rattle.c_syntax.specs.declared.kind.SynKind.{SynKind}
@@ -8,16 +8,16 @@ use Rattle.c_syntax.specs.declared.kind.SynKind.TheVariants as kind
 use Rattle.c_syntax.specs.Trees.{Tree}
 use Rattle.c_grammar.specs.Derivation.{IsTreeOf}
 use Rattle.c_typing.specs.Types.{CType, Field, Layout, has_size}
-use Rattle.c_typing.specs.Places.{Node, nodes, node_at, parent_of, kid, has_kid, other_kids, is_declarator, text_at}
-use Rattle.c_typing.specs.Names.{Name, Places, places, name_of, tag_of}
-use Rattle.c_typing.specs.Judgements.{Fault, Meaning, a_struct, members, a_type, Judgement, means, breaks_rules, waits, all_of, judgement_at, type_at, type_of, layouts}
+use Rattle.c_typing.specs.Places.{Node, nodes, node_at, parent_of, has_kid, other_kids, is_declarator, text_at}
+use Rattle.c_typing.specs.Names.{Places, places, name_of, tag_of}
+use Rattle.c_typing.specs.Judgements.{Meaning, a_struct, members, a_type, Judgement, means, all_of, judgement_at, type_at, type_of, layouts}
 use Rattle.c_typing.specs.Rules.{broken_if, incomplete_type}
 use Rattle.c_typing.specs.Declarators.{whole_by, members_of, layout, struct_specifier, struct_body, member, member_at, tag_names}
 use Rattle.c_typing.specs.Shapes as category
 use Rattle.c_typing.specs.Shapes.{Category, kids_fit, is_member}
 use Rattle.c_typing.specs.ShapesOfNodes.{category_at}
 use Rattle.c_typing.specs.Typing.{judged_by, judgements_at}
-use Rattle.c_typing.proofs.MadeJudged.{Yields, yields_verdict, yields_besides, yields_given, IsFront, Known, all_known, front_at}
+use Rattle.c_typing.proofs.MadeJudged.{Yields, yields_verdict, yields_besides, yields_given, IsFront, all_known, front_at}
 use Rattle.c_typing.proofs.MadeNodes.{In}
 use Rattle.c_typing.proofs.MadeForms.{is_active, is_passive_kind, yields_if, passive_row, braces_row}
 use Rattle.c_typing.proofs.MadeAnything.{any_row}
@@ -25,11 +25,11 @@ use Rattle.c_typing.proofs.MadeOthers.{is_statement_kind, statement_row, functio
 use Rattle.c_typing.proofs.MadeStatements.{is_expression_kind}
 use Rattle.c_typing.proofs.MadeParts.{all_parts, all_joined}
 use Rattle.c_typing.proofs.MadeSizes.{IsAligned}
-use Rattle.c_typing.proofs.MadeDeclarators.{Whole, typed_at}
+use Rattle.c_typing.proofs.MadeDeclarators.{typed_at}
 use Rattle.c_typing.proofs.MadeFunctionNames.{Anything, no_chains}
 use Rattle.c_typing.proofs.ProgressBase.{judged_at, earlier_at, take_front}
 use Rattle.c_typing.proofs.ProgressAll.{found_at}
-use Rattle.c_typing.proofs.ProgressKids.{Kid, kid_of}
+use Rattle.c_typing.proofs.ProgressKids.{kid_of}
 use Rattle.c_typing.proofs.ProgressKinds as of
 use Rattle.c_typing.proofs.ProgressStep.{at_all}
 use Rattle.c_typing.proofs.ProgressPlaces.{AreLinked, are_linked}

@@ -1,17 +1,16 @@
 -- The cells of all braces of a tree stand apart within what they initialize.
-use Rattle.std.proofs.Common.{◌≡◌, ◌⊎◌, inl, inr, ℕ, zero, suc, ◌+◌, ◌<◌, ◌≤◌, Bool, true, false, List, [], ◌∷◌, ◌++◌, length, map, Option, Some, None, refl, sym, ap, ap₂, ◌∙◌, subst, arith, true≢false, unwrap_or}
+use Rattle.std.proofs.Common.{◌≡◌, ◌⊎◌, inl, inr, ℕ, ◌+◌, ◌<◌, ◌≤◌, false, List, [], ◌∷◌, length, map, Option, Some, None, refl, sym, ap, ap₂, ◌∙◌, subst, arith, unwrap_or}
 use Rattle.std.specs.Prelude.{slice_get, take, flat_map, ◌==◌}
 use Rattle.std.specs.List.{range_with_len}
-use Rattle.std.proofs.lemmas.Bool.Decides.{Decides-eqb, nat_tests}
+use Rattle.std.proofs.lemmas.Bool.Decides.{nat_tests}
 use Rattle.std.proofs.lemmas.Option.{slice_get-get_or}
 use Rattle.c_lexer.specs.declared.token.Token.{Token}
-use Rattle.c_syntax.specs.declared.kind.SynKind.{SynKind}
 use Rattle.c_syntax.specs.declared.kind.SynKind.TheVariants as kind
 use Rattle.c_syntax.specs.Trees.{Tree}
 use Rattle.c_grammar.specs.Derivation.{IsTreeOf}
 use Rattle.c_types.specs.declared.tree.Cell.{Cell}
-use Rattle.c_typing.specs.Types.{CType, Layout, size_of}
-use Rattle.c_typing.specs.Places.{Node, nodes, node_at, kind_at, parent_of, kid, index_in}
+use Rattle.c_typing.specs.Types.{CType, size_of}
+use Rattle.c_typing.specs.Places.{Node, nodes, node_at, parent_of, kid, index_in}
 use Rattle.c_typing.specs.Names.{Places, places}
 use Rattle.c_typing.specs.Judgements.{Fault, Meaning, initial, Judgement, means, breaks_rules, waits, verdict, besides, given, all_of, judgement_at, layouts}
 use Rattle.c_typing.specs.Initializers.{part_of, Part, kid_part, too_many, count_in, completed, target, target_by, target_within, init_around, is_static_name, braces_for, braces_by, braces}
@@ -26,7 +25,6 @@ use Rattle.c_typing.proofs.ProgressInitials.{first_place, index_at}
 use Rattle.c_typing.proofs.ProgressTargets.{target_later, parts_later}
 use Rattle.c_typing.proofs.ProgressSpecials.{ArePlaced, long}
 use Rattle.c_typing.proofs.MadeCells.{Stand, no_cells}
-use Rattle.c_typing.proofs.MadeCellsParts.{BracesStand}
 use Rattle.c_typing.proofs.MadeCellsTypes.{AllLaid, MayHold}
 use Rattle.c_typing.proofs.MadeCellsBraces.{KidsStand, stand_braces}
 use Rattle.c_typing.proofs.MadeCellsLater.{done_later}

@@ -1,7 +1,7 @@
 -- The cells of an initializer stand apart within the object that it is for.
-use Rattle.std.proofs.Common.{◌≡◌, ◌⊎◌, inl, inr, ℕ, zero, suc, ◌+◌, ◌*◌, ◌<◌, ◌≤◌, Bool, true, false, ◌||◌, List, [], ◌∷◌, ◌++◌, length, map, Option, Some, None, refl, sym, ap, ◌∙◌, subst, arith, true≢false}
+use Rattle.std.proofs.Common.{◌≡◌, ℕ, zero, suc, ◌+◌, ◌*◌, ◌<◌, ◌≤◌, Bool, true, false, List, [], ◌∷◌, length, map, Option, Some, None, refl, sym, ap, ◌∙◌, subst, arith, true≢false}
 use Rattle.std.specs.Prelude.{if◌then◌else◌, flat_map, nat_lt}
-use Rattle.std.specs.List.{AllByRecursion, range_with_len}
+use Rattle.std.specs.List.{range_with_len}
 use Rattle.c_syntax.specs.declared.kind.SynKind.{SynKind}
 use Rattle.c_syntax.specs.declared.kind.SynKind.TheVariants as kind
 use Rattle.c_types.specs.declared.tree.Cell.{Cell}
@@ -9,8 +9,8 @@ use Rattle.c_typing.specs.Types as type
 use Rattle.c_typing.specs.Types.{CType, void, integer, pointer, array, unsized, struct, function, Layout, size_of, is_array, is_struct, is_unsized, is_text_array, is_character}
 use Rattle.c_typing.specs.Places.{Node, node_at, kind_at}
 use Rattle.c_typing.specs.Names.{Places}
-use Rattle.c_typing.specs.Judgements.{Typing, Fault, Meaning, initial, Judgement, means, breaks_rules, waits, judgement_at, typing_at, layouts, before, all_of}
-use Rattle.c_typing.specs.Rules.{bad_initializer, broken_if}
+use Rattle.c_typing.specs.Judgements.{Typing, initial, Judgement, means, judgement_at, typing_at, layouts, before, all_of}
+use Rattle.c_typing.specs.Rules.{bad_initializer}
 use Rattle.c_typing.specs.Initializers.{text_cells, Part, part, value_part, braced_part, part_by, part_for, is_too_long, completed, given_by_braces, given_count}
 use Rattle.c_typing.proofs.MadeTexts.{front_none, back_none}
 use Rattle.c_typing.proofs.ProgressCompleted.{completed_other}

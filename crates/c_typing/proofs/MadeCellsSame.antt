@@ -1,7 +1,6 @@
 -- Types that are the same have the same size.
-use Rattle.std.proofs.Common.{◌≡◌, ℕ, Bool, true, false, ◌&&◌, List, Option, Some, None, refl, sym, ap, ap₂, ◌∙◌, arith, true≢false}
+use Rattle.std.proofs.Common.{◌≡◌, ℕ, true, false, List, refl, sym, ap, ap₂, ◌∙◌, true≢false}
 use Rattle.std.specs.Prelude.{option_map, nat_lt, if◌then◌else◌, ◌==◌}
-use Rattle.c_types.specs.declared.kind.Measure.{Measure}
 use Rattle.c_types.specs.Sizes.{array_measure}
 use Rattle.c_typing.specs.Types as type
 use Rattle.c_typing.specs.Types.{CType, void, integer, pointer, array, unsized, struct, function, IntegerType, code_of, traits_of, same, Layout, layout_of, measure, measured}

@@ -1,26 +1,21 @@
 -- The members of each struct have sizes, and stand in order within it.
-use Rattle.std.proofs.Common.{◌≡◌, ◌⊎◌, inl, inr, ℕ, zero, suc, ◌+◌, ◌<◌, ◌≤◌, Bool, true, false, ◌||◌, not, List, [], ◌∷◌, ◌++◌, length, map, Option, Some, None, refl, sym, ap, ◌∙◌, subst, arith, true≢false, unwrap_or}
-use Rattle.std.specs.Prelude.{slice_get, take, drop, flat_map, if◌then◌else◌, option_map, find, ◌==◌}
-use Rattle.std.specs.List.{AllByRecursion, list_all}
-use Rattle.c_lexer.specs.declared.token.Token.{Token}
+use Rattle.std.proofs.Common.{◌≡◌, ℕ, zero, suc, ◌+◌, ◌<◌, ◌≤◌, Bool, true, false, List, [], ◌∷◌, ◌++◌, map, Some, refl, sym, ap, ◌∙◌, subst, arith, true≢false, unwrap_or}
+use Rattle.std.specs.Prelude.{take, if◌then◌else◌, ◌==◌}
+use Rattle.std.specs.List.{AllByRecursion}
 use Rattle.c_syntax.specs.declared.kind.SynKind.{SynKind}
 use Rattle.c_syntax.specs.declared.kind.SynKind.TheVariants as kind
-use Rattle.c_syntax.specs.Trees.{Tree}
-use Rattle.c_grammar.specs.Derivation.{IsTreeOf}
 use Rattle.c_grammar.specs.Vocabulary.{is_type_word, is_storage_word}
 use Rattle.c_types.specs.declared.kind.Measure.{Measure}
-use Rattle.c_types.specs.InOrder.{end_from, end_of, offsets, offsets_from, least_multiple, greatest_align}
+use Rattle.c_types.specs.InOrder.{end_from, end_of, offsets_from, least_multiple, greatest_align}
 use Rattle.c_types.specs.Sizes.{struct_measure}
 use Rattle.c_types.proofs.OrderLaws.{least_multiple_behind, greatest_align_some, some_alignment}
-use Rattle.c_typing.specs.Types.{CType, Field, Layout, layout_of, measure, no_measure, has_size, size_of}
-use Rattle.c_typing.specs.Places.{Node, nodes, node_at, parent_of, kid, has_kid, other_kids, is_declarator}
-use Rattle.c_typing.specs.Names.{Places, places}
-use Rattle.c_typing.specs.Judgements.{Fault, Meaning, a_struct, members, Judgement, means, breaks_rules, waits, all_of, judgement_at, type_at, type_of, layouts}
-use Rattle.c_typing.specs.Declarators.{members_of, laid, layout, struct_specifier, struct_body, member, member_at, tag_names, tag_faults}
+use Rattle.c_typing.specs.Types.{Field, Layout, layout_of, measure, no_measure, has_size, size_of}
+use Rattle.c_typing.specs.Names.{Places}
+use Rattle.c_typing.specs.Judgements.{Meaning, a_struct, Judgement, means, judgement_at, layouts}
+use Rattle.c_typing.specs.Declarators.{laid, layout}
 use Rattle.c_typing.specs.Shapes as category
 use Rattle.c_typing.specs.Shapes.{Category, category_by, kids_fit, is_member}
-use Rattle.c_typing.specs.ShapesOfNodes.{category_at}
-use Rattle.c_typing.specs.Typing.{judged_by, judgements_at}
+use Rattle.c_typing.specs.Typing.{judgements_at}
 use Rattle.c_typing.proofs.MadeSizes.{IsAligned, AllAligned, aligned, layouts_all, all_laid}
 use Rattle.c_typing.proofs.ProgressTargets.{layouts_front}
 use Rattle.c_typing.proofs.ProgressSizes.{over_no, brackets_no}

@@ -1,5 +1,5 @@
 -- What an initializer is for has a size, or is an array that is to get its length.
-use Rattle.std.proofs.Common.{◌≡◌, ◌⊎◌, inl, inr, ℕ, zero, suc, ◌+◌, ◌<◌, ◌≤◌, Bool, true, false, ◌||◌, not, List, [], ◌∷◌, ◌++◌, length, map, Option, Some, None, refl, sym, ap, ◌∙◌, subst, arith, true≢false, unwrap_or}
+use Rattle.std.proofs.Common.{◌≡◌, ◌⊎◌, inl, inr, ℕ, zero, suc, ◌<◌, Bool, true, false, not, List, [], ◌∷◌, ◌++◌, length, map, Option, Some, None, refl, sym, ap, ◌∙◌, subst, arith, true≢false, unwrap_or}
 use Rattle.std.specs.Prelude.{slice_get, get_or, take, if◌then◌else◌, option_and_then, ◌==◌}
 use Rattle.c_lexer.specs.declared.token.Token.{Token}
 use Rattle.c_syntax.specs.declared.kind.SynKind.{SynKind}
@@ -7,9 +7,9 @@ use Rattle.c_syntax.specs.declared.kind.SynKind.TheVariants as kind
 use Rattle.c_syntax.specs.Trees.{Tree}
 use Rattle.c_grammar.specs.Derivation.{IsTreeOf}
 use Rattle.c_typing.specs.Types.{CType, Layout, has_size, is_unsized, element_of}
-use Rattle.c_typing.specs.Places.{Node, nodes, node_at, kind_at, parent_of, kid, index_in, nowhere, is_declarator, specs_of}
+use Rattle.c_typing.specs.Places.{Node, nodes, node_at, parent_of, kid, index_in, nowhere, is_declarator, specs_of}
 use Rattle.c_typing.specs.Names.{Name, Entity, static_object, automatic, Places, places, name_of}
-use Rattle.c_typing.specs.Judgements.{Fault, Judgement, judgement_at, type_at, type_of, layouts}
+use Rattle.c_typing.specs.Judgements.{Judgement, judgement_at, type_at, type_of, layouts}
 use Rattle.c_typing.specs.Rules.{broken_if, incomplete_type, local_array_or_struct}
 use Rattle.c_typing.specs.Declarators.{whole_by, declared_faults, name_faults, object_size, build, adjusted}
 use Rattle.c_typing.specs.Initializers.{is_text_alone, part_type, part_of, is_object, declared_object, target, target_by, target_within}
@@ -20,7 +20,6 @@ use Rattle.c_typing.specs.Typing.{judgements_at, faults}
 use Rattle.c_typing.proofs.MadeTexts.{front_none}
 use Rattle.c_typing.proofs.MadeDeclarators.{Whole, typed_at}
 use Rattle.c_typing.proofs.MadeFunctionNames.{Anything, no_chains}
-use Rattle.c_typing.proofs.ProgressBase.{earlier_at}
 use Rattle.c_typing.proofs.ProgressForms.{is_part}
 use Rattle.c_typing.proofs.ProgressAll.{found_at}
 use Rattle.c_typing.proofs.ProgressKids.{Kid, kid_of}
@@ -31,9 +30,8 @@ use Rattle.c_typing.proofs.ProgressOwners.{specs_before}
 use Rattle.c_typing.proofs.ProgressBuilt.{has_unsized, unsized_from}
 use Rattle.c_typing.proofs.ProgressSizes.{specs_lengthy}
 use Rattle.c_typing.proofs.ProgressSized.{all_lengthy}
-use Rattle.c_typing.proofs.MadeCellsTypes.{AllLaid, MayHold, part_sized}
+use Rattle.c_typing.proofs.MadeCellsTypes.{MayHold, part_sized}
 use Rattle.c_typing.proofs.MadeCellsLater.{hold_later}
-use Rattle.c_typing.proofs.MadeCellsStructs.{taken}
 use Rattle.c_typing.proofs.MadeCellsMembers.{front_is, structs_laid}
 
 no : {A : Type 0} → false ≡ true → A

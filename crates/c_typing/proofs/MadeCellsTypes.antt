@@ -1,11 +1,11 @@
 -- Parts of types: they have sizes, and stand in order within the whole.
-use Rattle.std.proofs.Common.{◌≡◌, ◌⊎◌, inl, inr, ℕ, zero, suc, ◌+◌, ◌*◌, ◌<◌, ◌≤◌, Bool, true, false, List, [], ◌∷◌, Option, Some, None, refl, sym, ap, ◌∙◌, subst, arith, true≢false, unwrap_or}
+use Rattle.std.proofs.Common.{◌≡◌, ◌⊎◌, inl, inr, ℕ, zero, suc, ◌+◌, ◌*◌, ◌≤◌, Bool, true, false, List, [], ◌∷◌, Option, Some, None, refl, sym, ap, ◌∙◌, subst, arith, true≢false, unwrap_or}
 use Rattle.std.specs.Prelude.{if◌then◌else◌, nat_lt, slice_get, option_map, option_and_then}
 use Rattle.std.specs.Option.{is_some}
 use Rattle.c_types.specs.declared.kind.Measure.{Measure}
 use Rattle.c_types.specs.Sizes.{array_measure}
 use Rattle.c_typing.specs.Types.{CType, void, integer, pointer, array, unsized, struct, function, Field, Layout, layout_of, measure, no_measure, has_size, size_of, is_unsized, element_of}
-use Rattle.c_typing.specs.Initializers.{part_type, part_offset}
+use Rattle.c_typing.specs.Initializers.{part_type}
 
 no : {A : Type 0} → false ≡ true → A
 no e = absurd (true≢false (sym e))

@@ -1,21 +1,19 @@
 -- Each copy of a struct has a size above 0 that is a multiple of the alignment.
-use Rattle.std.proofs.Common.{◌≡◌, ℕ, ◌<◌, ◌%◌, true, false, List, [], length, Option, Some, refl, sym, ap, ◌∙◌, subst, arith, true≢false}
-use Rattle.std.specs.Prelude.{slice_get}
+use Rattle.std.proofs.Common.{◌≡◌, ℕ, ◌<◌, true, List, [], Some, refl, sym, ap, ◌∙◌, subst, true≢false}
 use Rattle.std.specs.List.{AllByRecursion}
 use Rattle.c_lexer.specs.declared.token.Token.{Token}
 use Rattle.c_syntax.specs.Trees.{Tree}
 use Rattle.c_grammar.specs.Derivation.{IsTreeOf}
 use Rattle.c_types.specs.declared.tree.Expr.{Expr}
 use Rattle.c_types.specs.declared.tree.Func.{Func}
-use Rattle.c_types.specs.declared.tree.Unit.{Unit as Whole}
 use Rattle.c_types.specs.Forms.{copy}
 use Rattle.c_types.specs.Every.{EveryExpr, EveryStmt, InEveryExpr, own_exprs}
 use Rattle.c_types.specs.WellMade.{CopiesStruct}
-use Rattle.c_typing.specs.Types.{CType, struct, has_size, size_of, align_of}
-use Rattle.c_typing.specs.Places.{Node, nodes, kid}
+use Rattle.c_typing.specs.Types.{struct, has_size, size_of, align_of}
+use Rattle.c_typing.specs.Places.{kid}
 use Rattle.c_typing.specs.Names.{places}
-use Rattle.c_typing.specs.Judgements.{Typing, Judgement, expresses, means, judgement_at, typing_at, layouts}
-use Rattle.c_typing.specs.Typing.{judgements_at, unit_in, unit_of, faults, IsTyped}
+use Rattle.c_typing.specs.Judgements.{Typing, Judgement, expresses, judgement_at, typing_at, layouts}
+use Rattle.c_typing.specs.Typing.{judgements_at, unit_in, faults}
 use Rattle.c_typing.proofs.MadeJudged.{IsFront, meant_later}
 use Rattle.c_typing.proofs.MadeParts.{typing_meant}
 use Rattle.c_typing.proofs.MadeEvery.{every_stmt}
@@ -66,12 +64,8 @@ module _ (tokens : List Token) (t : Tree) (derived : IsTreeOf tokens t) (quiet :
     copying = λ js node x k to from there front e h c. copied js front (kid node 0) x k to from e h;
   }
 
-  in_unit : InEveryExpr (unit_in (places t) (judgements_at (places t))) (λ f. CopiesStruct)
-  in_unit = functions_good (λ (f : Func). EveryStmt (λ s. AllByRecursion (EveryExpr CopiesStruct) (own_exprs s)) f.body) (judgements_at (places t))
+  -- each copy is of a struct that has a size
+  pub structs_copied : InEveryExpr (unit_in (places t) (judgements_at (places t))) (λ f. CopiesStruct)
+  structs_copied = functions_good (λ (f : Func). EveryStmt (λ s. AllByRecursion (EveryExpr CopiesStruct) (own_exprs s)) f.body) (judgements_at (places t))
       (λ n f e. every_stmt (Each t CopiesStruct (λ s. Unit {0}) (λ n. Unit {0}) (λ n. Unit {0}) (λ k. Unit {0}) (λ c u. Unit {0})) (λ s. AllByRecursion (EveryExpr CopiesStruct) (own_exprs s)) (λ s h. h.0) f.body
       (all_code t CopiesStruct (λ s. Unit {0}) (λ n. Unit {0}) (λ n. Unit {0}) (λ k. Unit {0}) (λ c u. Unit {0}) leaves tokens derived n f e tt))
-
--- each copy in a typed unit is of a struct that has a size
-pub structs_copied : (tokens : List Token) (t : Tree) (u : Whole) → IsTreeOf tokens t → IsTyped t u → InEveryExpr u (λ f. CopiesStruct)
-unfolding unit_of
-structs_copied tokens t u derived typed = subst (λ v. InEveryExpr v (λ f. CopiesStruct)) typed.unit (in_unit tokens t derived typed.keeps)

@@ -1,7 +1,6 @@
 -- Each expression of struct type has a struct that is complete.
 use Rattle.std.proofs.Common.{◌≡◌, ℕ, zero, suc, ◌<◌, ◌≤◌, Bool, true, false, ◌||◌, List, [], ◌∷◌, ◌++◌, length, Option, Some, None, refl, sym, ap, ◌∙◌, subst, arith, true≢false, unwrap_or}
-use Rattle.std.specs.Prelude.{slice_get, if◌then◌else◌, ◌==◌, codes}
-use Rattle.std.specs.Option.{is_some}
+use Rattle.std.specs.Prelude.{slice_get, if◌then◌else◌, codes}
 use Rattle.std.specs.Str.{bytes_eq}
 use Rattle.c_lexer.specs.declared.token.Token.{Token}
 use Rattle.c_syntax.specs.declared.kind.SynKind.{SynKind}
@@ -17,7 +16,7 @@ use Rattle.c_typing.specs.Conversions.{value_of, result, result_type, choice_typ
 use Rattle.c_typing.specs.Rules.{function_as_value, not_a_function}
 use Rattle.c_typing.specs.Expressions.{type_of_name, word_of_enumerator, literal, variable_by, variable, prefix_step, postfix_step, element_type, element_typing, subscript, called, call_by, member_form, field_of, no_field, dot, arrow, address_operator, dereference, sign_typing, sign_operator, not_operator, unary, measured_type, cast, binary_by, binary_operator, conditional, comma, assignment, compound_by, assign, expression}
 use Rattle.c_typing.specs.Initializers.{string}
-use Rattle.c_typing.specs.Typing.{in_parentheses, choice_node, call_node, cast_node, judged_by, judgements_at, faults}
+use Rattle.c_typing.specs.Typing.{in_parentheses, choice_node, judged_by, judgements_at, faults}
 use Rattle.c_typing.proofs.ProgressDeclared.{begins_before}
 use Rattle.c_typing.proofs.MadeJudged.{Yields, yields_verdict, yields_besides, yields_given, IsFront, Known, all_known}
 use Rattle.c_typing.proofs.MadeNodes.{In}
@@ -30,7 +29,7 @@ use Rattle.c_typing.proofs.MadeObjects.{denoted_in}
 use Rattle.c_typing.proofs.MadeTexts.{back_none}
 use Rattle.c_typing.proofs.MadeKept.{is_object_entity}
 use Rattle.c_typing.proofs.MadeCopiedSizes.{is_hollow}
-use Rattle.c_typing.proofs.MadeCopiedMembers.{Sized, sized_on}
+use Rattle.c_typing.proofs.MadeCopiedMembers.{sized_on}
 use Rattle.c_typing.proofs.MadeCopiedStructs.{members_sized}
 use Rattle.c_typing.proofs.MadeCopiedForms.{Complete, Callable, kept_verdict, allowed, plain_form, complete_other, complete_function, complete_here, complete_cast, value_complete, result_complete, choice_complete, element_complete, field_complete}
 use Rattle.c_typing.proofs.MadeCopiedNames.{object_complete, function_full, parameter_complete}

@@ -1,20 +1,17 @@
 -- An expression of struct type has a struct that is complete, where the names of objects have.
-use Rattle.std.proofs.Common.{◌≡◌, ℕ, zero, suc, ◌<◌, ◌≤◌, Bool, true, false, not, ◌||◌, ◌&&◌, List, [], ◌∷◌, length, map, Option, Some, None, refl, sym, ap, ◌∙◌, subst, arith, true≢false, unwrap_or}
-use Rattle.std.specs.Prelude.{slice_get, option_and_then, find, if◌then◌else◌, ◌==◌, codes}
-use Rattle.std.specs.Option.{is_some}
+use Rattle.std.proofs.Common.{◌≡◌, ℕ, Bool, true, false, not, List, [], ◌∷◌, length, Some, None, refl, sym, subst, true≢false, unwrap_or}
+use Rattle.std.specs.Prelude.{option_and_then, find, if◌then◌else◌, ◌==◌}
 use Rattle.std.specs.Str.{bytes_eq}
 use Rattle.std.specs.List.{AllByRecursion}
-use Rattle.c_syntax.specs.declared.kind.SynKind.{SynKind}
-use Rattle.c_syntax.specs.declared.kind.SynKind.TheVariants as kind
-use Rattle.c_typing.specs.Types.{CType, void, integer, pointer, array, unsized, struct, function, is_struct, is_pointer, is_function, target_of, Field, Layout, layout_of, has_size}
+use Rattle.c_typing.specs.Types.{CType, void, integer, pointer, array, unsized, struct, function, is_struct, is_pointer, is_function, Field, Layout, layout_of, has_size}
 use Rattle.c_typing.specs.Names.{Places}
-use Rattle.c_typing.specs.Judgements.{Callee, Form, value, in_local, in_memory, temporary, callee, Constant, Typing, Fault, Meaning, Judgement, means, verdict, layouts, judgement_at}
+use Rattle.c_typing.specs.Judgements.{Form, value, in_local, in_memory, temporary, callee, Typing, Fault, Meaning, Judgement, verdict, layouts}
 use Rattle.c_typing.specs.Conversions.{value_of, value_by, read_by, result_form, Class, multiplicative, additive, subtractive, shift, relational, equality, bitwise, and_then, or_else, result_type, common_type, sum_type, difference_type, shift_type, truth, choice_type, choice_by, pointer_choice, is_null, points_to_void, are_comparable, is_castable}
 use Rattle.c_typing.specs.Rules.{broken_if}
-use Rattle.c_typing.specs.Expressions.{element_type, element_typing, field_of, no_field, sign_typing}
+use Rattle.c_typing.specs.Expressions.{element_type, field_of, no_field}
 use Rattle.c_typing.proofs.MadeJudged.{Yields, IsFront}
 use Rattle.c_typing.proofs.MadeCopiedSizes.{is_hollow}
-use Rattle.c_typing.proofs.MadeCopiedMembers.{Sized, sized_from, sized_on}
+use Rattle.c_typing.proofs.MadeCopiedMembers.{Sized, sized_from}
 
 -- from a node on, the type is complete where it is a struct
 abbrev pub Complete : Places → ℕ → CType → Type 0

@@ -1,18 +1,17 @@
 -- A struct that the name of an object has is complete, no parameter has one, and no function gives one.
 use Rattle.std.proofs.Common.{◌≡◌, ◌⊎◌, inl, inr, ℕ, zero, suc, ◌<◌, ◌≤◌, Bool, true, false, ◌||◌, List, [], ◌∷◌, ◌++◌, length, map, Option, Some, None, refl, sym, ap, ◌∙◌, subst, arith, true≢false, unwrap_or}
-use Rattle.std.specs.Prelude.{slice_get, get_or, take, filter_map, if◌then◌else◌}
+use Rattle.std.specs.Prelude.{slice_get, filter_map, if◌then◌else◌}
 use Rattle.std.specs.Option.{is_some}
 use Rattle.std.specs.List.{list_any}
 use Rattle.c_lexer.specs.declared.token.Token.{Token}
-use Rattle.c_syntax.specs.declared.kind.SynKind.{SynKind}
 use Rattle.c_syntax.specs.declared.kind.SynKind.TheVariants as kind
 use Rattle.c_syntax.specs.Trees.{Tree}
 use Rattle.c_grammar.specs.Derivation.{IsTreeOf}
-use Rattle.c_typing.specs.Types.{CType, void, integer, pointer, array, unsized, struct, function, is_struct, is_function, Layout, has_size}
+use Rattle.c_typing.specs.Types.{CType, void, integer, pointer, array, unsized, struct, function, is_struct, is_function, has_size}
 use Rattle.c_typing.specs.Places.{Node, nodes, node_at, kid, other_kids, specs_of}
 use Rattle.c_typing.specs.Names.{Entity, typedef_name, function_name, static_object, automatic, parameter, enumerator, Places, places, Name}
 use Rattle.c_typing.specs.Judgements.{Fault, Judgement, means, breaks_rules, waits, besides, given, declares, judgement_at, type_at, type_of, faults_in, layouts}
-use Rattle.c_typing.specs.Rules.{local_array_or_struct, many_parameters, bad_parameter, incomplete_type, broken_if}
+use Rattle.c_typing.specs.Rules.{local_array_or_struct, many_parameters, bad_parameter, broken_if}
 use Rattle.c_typing.specs.Declarators.{object_size, name_faults, declared_faults, function_declarator, parameter_node}
 use Rattle.c_typing.specs.Expressions.{type_of_name}
 use Rattle.c_typing.specs.Initializers.{completed}
@@ -22,16 +21,16 @@ use Rattle.c_typing.specs.ShapesOfNodes.{category_at}
 use Rattle.c_typing.specs.Typing.{judged_by, judgements_at, faults}
 use Rattle.c_typing.proofs.ProgressBase.{some_same}
 use Rattle.c_typing.proofs.ProgressForms.{is_part}
-use Rattle.c_typing.proofs.ProgressPlaces.{AreLinked, are_linked}
+use Rattle.c_typing.proofs.ProgressPlaces.{are_linked}
 use Rattle.c_typing.proofs.ProgressMeant.{meant}
-use Rattle.c_typing.proofs.ProgressDeclared.{IsDeclaredName, IsEnumerator, is_enumerator_entity}
+use Rattle.c_typing.proofs.ProgressDeclared.{IsDeclaredName, IsEnumerator}
 use Rattle.c_typing.proofs.ProgressNumbers.{InList}
 use Rattle.c_typing.proofs.ProgressObjects.{stand}
 use Rattle.c_typing.proofs.ProgressCompleted as completing
 use Rattle.c_typing.proofs.ProgressTyped as typed
 use Rattle.c_typing.proofs.MadeJudged.{IsFront, Stands, stands, front_at, no_fault_of}
 use Rattle.c_typing.proofs.MadeNodes.{In, at_in}
-use Rattle.c_typing.proofs.MadePlaced.{Found, numbered, found, kid_found}
+use Rattle.c_typing.proofs.MadePlaced.{found, kid_found}
 use Rattle.c_typing.proofs.MadeDefined.{Clean, clean}
 use Rattle.c_typing.proofs.MadeNames.{Named, Declares, by_declarator, by_enumerator}
 use Rattle.c_typing.proofs.MadeFunctionNames.{Anything, no_chains, names_here}
@@ -40,14 +39,13 @@ use Rattle.c_typing.proofs.MadeTexts.{back_none}
 use Rattle.c_typing.proofs.MadeWhole.{begins_named}
 use Rattle.c_typing.proofs.MadeLists.{Listed, listed_by, named_category}
 use Rattle.c_typing.proofs.MadeLocals.{owner_of_parameter}
-use Rattle.c_typing.proofs.MadeKept.{Low, low_by, is_object_entity, KeptName, kept_name, object_named}
+use Rattle.c_typing.proofs.MadeKept.{low_by, is_object_entity, kept_name, object_named}
 use Rattle.c_typing.proofs.MadeTyped.{type_later, name_typed}
 use Rattle.c_typing.proofs.MadeCalls.{fun_name}
-use Rattle.c_typing.proofs.Made.{IsMeaningful}
-use Rattle.c_typing.proofs.MadeMeant.{meaningful}
+use Rattle.c_typing.proofs.MadeMeant.{IsMeaningful, meaningful}
 use Rattle.c_typing.proofs.MadeCopiedSizes.{is_hollow}
 use Rattle.c_typing.proofs.MadeCopiedTypes.{type_full}
-use Rattle.c_typing.proofs.MadeCopiedMembers.{Sized, sized_from, sized_on}
+use Rattle.c_typing.proofs.MadeCopiedMembers.{sized_from, sized_on}
 use Rattle.c_typing.proofs.MadeCopiedForms.{Complete, allowed, complete_other}
 
 object_front : (p : Places) (js : List Judgement) (x : Name) (u : CType) (n : ℕ) (y : Entity) → is_object_entity y ≡ true → declared_faults p js x u n false y ≡ [] → object_size (layouts js) u n ≡ []

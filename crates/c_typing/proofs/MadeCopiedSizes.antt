@@ -1,19 +1,19 @@
 -- A type with a size has one above 0, where no array of it is empty and no struct is.
-use Rattle.std.proofs.Common.{◌≡◌, ℕ, zero, suc, ◌+◌, ◌<◌, ◌≤◌, max, Bool, true, false, ◌||◌, cond, List, [], ◌∷◌, ◌++◌, map, Option, Some, None, refl, sym, ap, ◌∙◌, subst, arith, true≢false, ◌⊎◌, inl, inr, unwrap_or}
+use Rattle.std.proofs.Common.{◌≡◌, ℕ, zero, suc, ◌+◌, ◌<◌, max, Bool, true, false, ◌||◌, cond, List, [], ◌∷◌, Option, Some, None, refl, sym, ap, ◌∙◌, arith, true≢false, inl, inr, unwrap_or}
 use Rattle.std.proofs.Math.Nat.{mul-pos}
 use Rattle.std.specs.Prelude.{option_map, ◌==◌}
 use Rattle.std.specs.Option.{is_some}
 use Rattle.std.specs.List.{AllByRecursion}
 use Rattle.c_types.specs.declared.kind.Measure.{Measure}
-use Rattle.c_types.specs.InOrder.{AreAligned, least_multiple, greatest_align, end_from, end_of}
+use Rattle.c_types.specs.InOrder.{AreAligned, least_multiple, greatest_align, end_of}
 use Rattle.c_types.specs.Sizes.{struct_measure, array_measure}
 use Rattle.c_types.specs.WellMade.{IsAlignment}
 use Rattle.c_types.proofs.OrderLaws.{least_multiple_behind, end_from_behind}
 use Rattle.c_typing.specs.Types as type
 use Rattle.c_typing.specs.Types.{CType, void, integer, pointer, array, unsized, struct, function, is_struct, Layout, layout_of, measure, has_size, size_of, traits_of, no_measure, IntegerType}
 use Rattle.c_typing.specs.Judgements.{Step, to_pointer, of_array, of_unsized, of_function, PlacedStep, Fault}
-use Rattle.c_typing.specs.Rules.{incomplete_type, bad_result, broken_if, size_fault}
-use Rattle.c_typing.specs.Declarators.{Built, built, build, stepped_from, array_faults}
+use Rattle.c_typing.specs.Rules.{bad_result, broken_if}
+use Rattle.c_typing.specs.Declarators.{built, build, stepped_from}
 use Rattle.c_typing.proofs.MadeDeclarators.{HasElements}
 use Rattle.c_typing.proofs.MadeSizes.{IsAligned}
 

@@ -1,44 +1,38 @@
 -- Each struct that is complete has a size above 0, and so have its members.
-use Rattle.std.proofs.Common.{◌≡◌, ◌⊎◌, inl, inr, ℕ, zero, suc, ◌+◌, ◌<◌, ◌≤◌, Bool, true, false, not, ◌||◌, List, [], ◌∷◌, ◌++◌, length, map, Option, Some, None, refl, sym, ap, ◌∙◌, subst, arith, true≢false, unwrap_or}
-use Rattle.std.specs.Prelude.{slice_get, take, drop, option_map, flat_map, if◌then◌else◌}
-use Rattle.std.specs.Option.{is_some}
+use Rattle.std.proofs.Common.{◌≡◌, ℕ, zero, suc, ◌<◌, ◌≤◌, Bool, true, false, ◌||◌, List, [], ◌∷◌, length, map, Some, refl, sym, ap, ◌∙◌, arith, true≢false, unwrap_or}
+use Rattle.std.specs.Prelude.{slice_get, flat_map}
 use Rattle.std.specs.List.{AllByRecursion, list_all}
 use Rattle.c_lexer.specs.declared.token.Token.{Token}
 use Rattle.c_syntax.specs.declared.kind.SynKind.{SynKind}
 use Rattle.c_syntax.specs.declared.kind.SynKind.TheVariants as kind
 use Rattle.c_syntax.specs.Trees.{Tree}
 use Rattle.c_grammar.specs.Derivation.{IsTreeOf}
-use Rattle.c_grammar.specs.Vocabulary.{is_type_word, is_storage_word}
-use Rattle.c_types.specs.declared.kind.Measure.{Measure}
-use Rattle.c_types.specs.Sizes.{struct_measure}
 use Rattle.c_types.specs.InOrder.{offsets}
-use Rattle.c_typing.specs.Types.{CType, Field, Layout, has_size, size_of, measure, no_measure}
-use Rattle.c_typing.specs.Places.{Node, nodes, node_at, parent_of, kid, other_kids, has_kid}
+use Rattle.c_typing.specs.Types.{CType, Field, Layout, has_size, measure, no_measure}
+use Rattle.c_typing.specs.Places.{Node, nodes, node_at, parent_of, other_kids, has_kid}
 use Rattle.c_typing.specs.Names.{Places, places, name_of}
-use Rattle.c_typing.specs.Judgements.{rule, Meaning, a_struct, members, Judgement, means, judgement_at, type_at, type_of, layouts, all_of}
+use Rattle.c_typing.specs.Judgements.{Meaning, a_struct, members, Judgement, means, judgement_at, type_at, type_of, layouts, all_of}
 use Rattle.c_typing.specs.Rules.{incomplete_type}
-use Rattle.c_typing.specs.Declarators.{whole_by, member_at, member, members_of, laid, layout, struct_body, struct_specifier}
+use Rattle.c_typing.specs.Declarators.{whole_by, member_at, member, members_of, layout, struct_body, struct_specifier}
 use Rattle.c_typing.specs.Shapes as category
 use Rattle.c_typing.specs.Shapes.{Category, category_by, kids_fit}
 use Rattle.c_typing.specs.ShapesOfNodes.{category_at}
 use Rattle.c_typing.specs.Typing.{judged_by, judgements_at, faults}
-use Rattle.c_typing.proofs.ProgressForms.{is_part, split}
+use Rattle.c_typing.proofs.ProgressForms.{is_part}
 use Rattle.c_typing.proofs.ProgressKinds as of
 use Rattle.c_typing.proofs.ProgressPlaces.{AreLinked, are_linked}
-use Rattle.c_typing.proofs.ProgressSizes.{over_no, brackets_no}
-use Rattle.c_typing.proofs.ProgressSized.{sized_later}
 use Rattle.c_typing.proofs.MadeJudged.{Yields, yields_verdict, yields_besides, yields_given, IsFront, Known, all_known, meant_later}
 use Rattle.c_typing.proofs.MadeNodes.{In}
 use Rattle.c_typing.proofs.MadeForms.{is_active, is_passive_kind, yields_if_so, passive_row, braces_row}
-use Rattle.c_typing.proofs.MadeParts.{in_others, in_kids_where, all_parts, all_joined}
-use Rattle.c_typing.proofs.MadePlaced.{Found, numbered, node_there, kid_found}
+use Rattle.c_typing.proofs.MadeParts.{in_others, all_parts, all_joined}
+use Rattle.c_typing.proofs.MadePlaced.{numbered, node_there, kid_found}
 use Rattle.c_typing.proofs.MadeAnything.{any_row}
 use Rattle.c_typing.proofs.MadeOthers.{is_statement_kind, statement_row, function_row}
 use Rattle.c_typing.proofs.MadeStatements.{is_expression_kind}
-use Rattle.c_typing.proofs.MadeDeclarators.{Whole, all_long, long-map}
+use Rattle.c_typing.proofs.MadeDeclarators.{all_long, long-map}
 use Rattle.c_typing.proofs.MadeSizes.{IsAligned, AllAligned, layouts_all, members_aligned, struct_aligned}
-use Rattle.c_typing.proofs.MadeCopiedSizes.{is_hollow, AllSolid, AllWithElements, size_above, struct_solid}
-use Rattle.c_typing.proofs.MadeCopiedTypes.{front_is, whole_typed, type_full}
+use Rattle.c_typing.proofs.MadeCopiedSizes.{AllSolid, size_above, struct_solid}
+use Rattle.c_typing.proofs.MadeCopiedTypes.{whole_typed, type_full}
 use Rattle.c_typing.proofs.MadeCopiedMembers.{Sized, sized_from, sized_on, IsMember, is_member_kind, Filled, member_typed, members_meant, size_there, all_in, member_kind, part_among, rest_of, some_others, laid_all, first_filled, some_kids, all_first, all_second}
 
 -- ---- complete structs

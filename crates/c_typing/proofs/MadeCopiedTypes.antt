@@ -1,7 +1,6 @@
 -- No type that a declarator gives is hollow: its arrays have elements.
-use Rattle.std.proofs.Common.{◌≡◌, ℕ, zero, suc, ◌<◌, ◌≤◌, Bool, true, false, not, ◌||◌, List, [], ◌∷◌, ◌++◌, length, map, Option, Some, None, refl, sym, ap, ◌∙◌, subst, arith, true≢false}
+use Rattle.std.proofs.Common.{◌≡◌, ℕ, ◌<◌, true, false, not, List, [], ◌∷◌, ◌++◌, length, map, Some, refl, sym, ap, ◌∙◌, arith}
 use Rattle.std.specs.Prelude.{slice_get, take}
-use Rattle.std.specs.List.{AllByRecursion}
 use Rattle.c_lexer.specs.declared.token.Token.{Token}
 use Rattle.c_syntax.specs.declared.kind.SynKind.{SynKind}
 use Rattle.c_syntax.specs.declared.kind.SynKind.TheVariants as kind
@@ -9,8 +8,8 @@ use Rattle.c_syntax.specs.Trees.{Tree}
 use Rattle.c_grammar.specs.Derivation.{IsTreeOf}
 use Rattle.c_typing.specs.Types.{CType, void, integer, pointer, array, unsized, struct, function, types_of}
 use Rattle.c_typing.specs.Places.{Node, nodes, node_at, kind_at, parent_of, specs_of, is_declarator, is_whole}
-use Rattle.c_typing.specs.Names.{Name, places, is_typedef}
-use Rattle.c_typing.specs.Judgements.{Judgement, Step, of_function, PlacedStep, means, declares, judgement_at, type_at, type_of, layouts}
+use Rattle.c_typing.specs.Names.{places}
+use Rattle.c_typing.specs.Judgements.{Judgement, Step, of_function, PlacedStep, judgement_at, type_at, type_of, layouts}
 use Rattle.c_typing.specs.Declarators.{adjusted, build, with_step}
 use Rattle.c_typing.specs.Typing.{judgements_at, faults}
 use Rattle.c_typing.specs.ShapesOfNodes.{category_at}
@@ -19,11 +18,8 @@ use Rattle.c_typing.proofs.ProgressForms.{is_part}
 use Rattle.c_typing.proofs.ProgressAll.{by_number, found_at}
 use Rattle.c_typing.proofs.ProgressPlaces.{AreLinked, are_linked}
 use Rattle.c_typing.proofs.ProgressOwners.{specs_before}
-use Rattle.c_typing.proofs.ProgressDeclared.{IsDeclaredName}
-use Rattle.c_typing.proofs.ProgressNumbers.{InList}
 use Rattle.c_typing.proofs.ProgressParts.{part_declares}
 use Rattle.c_typing.proofs.ProgressSizes.{Lengthy, specs_lengthy}
-use Rattle.c_typing.proofs.MadeJudged.{IsFront}
 use Rattle.c_typing.proofs.MadeDeclarators.{HasElements, Whole, Chains, typed_at}
 use Rattle.c_typing.proofs.MadeCopiedSizes.{is_hollow, AllWithElements, build_full}
 

@@ -10,7 +10,7 @@ use Rattle.c_typing.specs.Types.{CType, types_of}
 use Rattle.c_typing.specs.Places.{Node, nodes, kid, other_kids, parent_of, specs_of, is_declarator, is_whole, has_kid}
 use Rattle.c_typing.specs.Names.{places, name_of}
 use Rattle.c_typing.specs.Judgements.{Step, to_pointer, of_array, of_unsized, of_function, PlacedStep, Meaning, steps, declares, a_type, initialized, Typing, Constant, number, Fault, Judgement, means, verdict, judgement_at, typing_at, type_at, steps_at, steps_of, type_of, layouts, all_of, before}
-use Rattle.c_typing.specs.Rules.{absent_length, bad_array_length, not_constant, out_of_range, is_negative, is_bad_length, broken_if}
+use Rattle.c_typing.specs.Rules.{absent_length, not_constant, out_of_range, is_negative, is_bad_length, broken_if}
 use Rattle.c_typing.specs.Declarators.{Built, built, build, adjusted, whole_by, whole_type, declarator, with_step, pointer_declarator, absent_length_step, length_faults, length_step, array_declarator, function_declarator, is_parameter_length, is_given_by_initializer, word_in}
 use Rattle.c_typing.specs.Typing.{in_parentheses, judged_by, judgements_at}
 use Rattle.c_typing.proofs.MadeJudged.{Yields, yields_besides, yields_given, IsFront, Known, all_known}

@@ -1,8 +1,7 @@
 -- Where each node of a tree has a meaning of its form, functions and whole declarators have theirs.
-use Rattle.std.proofs.Common.{◌≡◌, ℕ, List, true, false, Bool, Some, refl, sym, ap, ◌∙◌, subst, true≢false}
+use Rattle.std.proofs.Common.{◌≡◌, ℕ, List, true, Some, refl, sym, ap, ◌∙◌, subst, true≢false}
 use Rattle.std.specs.Prelude.{slice_get}
 use Rattle.c_lexer.specs.declared.token.Token.{Token}
-use Rattle.c_syntax.specs.declared.kind.SynKind.{SynKind}
 use Rattle.c_syntax.specs.declared.kind.SynKind.TheVariants as kind
 use Rattle.c_syntax.specs.Trees.{Tree}
 use Rattle.c_grammar.specs.Derivation.{IsTreeOf}
@@ -17,10 +16,11 @@ use Rattle.c_typing.specs.ShapesOfNodes.{category_at}
 use Rattle.c_typing.specs.Typing.{judgements_at}
 use Rattle.c_typing.specs.Meant.{IsMeant, has_form, says_function, says_declarator}
 use Rattle.c_typing.proofs.MadeTop.{category_is}
-use Rattle.c_types.specs.declared.tree.Unit.{Unit as Whole}
-use Rattle.c_typing.specs.Typing.{IsTyped}
-use Rattle.c_typing.proofs.ProgressMeant.{meant}
-use Rattle.c_typing.proofs.Made.{IsMeaningful, IsMadeSoFar, made_so_far}
+
+-- what is asked of the meanings of a tree without faults: functions that are defined and whole declarators have one
+pub record IsMeaningful (t : Tree) : Type 0 where
+  pub functions : (n : ℕ) (node : Node) → slice_get (nodes t) n ≡ Some node → node.label.kind ≡ kind.Function → (f : Func) × (judgement_at (judgements_at (places t)) n ≡ means (defines f))
+  pub declarators : (n : ℕ) (node : Node) → slice_get (nodes t) n ≡ Some node → category_at t n ≡ category.declarator → is_whole (nodes t) node ≡ true → (u : CType) × (judgement_at (judgements_at (places t)) n ≡ means (declares u))
 
 function_meant : (m : Meaning) → says_function m ≡ true → (f : Func) × (m ≡ defines f)
 function_meant (defines f) e = (f, refl)
@@ -42,7 +42,3 @@ meaningful tokens t derived means_all = record {
       let u = declarator_meant h.meaning (subst (λ b. says_declarator b h.meaning ≡ true) whole (subst (λ d. has_form d node.label.kind (is_whole (nodes t) node) h.meaning ≡ true) is h.form)) in
       (u.0, h.judged ∙ ap means u.1);
 }
-
--- so a typed unit is made so
-pub typed_made : (tokens : List Token) (t : Tree) (u : Whole) → IsTreeOf tokens t → IsTyped t u → IsMadeSoFar u
-typed_made tokens t u derived typed = made_so_far tokens t u derived typed (meaningful tokens t derived (λ n m at. meant tokens t n m derived typed.keeps at))

@@ -1,4 +1,4 @@
--- The names of the functions of a typed unit are identifiers, where its tokens are those of bytes.
+-- The names of functions are identifiers, where the tokens are those of some bytes.
 use Rattle.std.proofs.Common.{◌≡◌, ℕ, zero, suc, ◌+◌, List, [], ◌∷◌, map, Some, sym, ◌∙◌, subst, true}
 use Rattle.std.specs.Prelude.{slice_get, filter_map}
 use Rattle.std.specs.List.{AllByRecursion}
@@ -10,11 +10,10 @@ use Rattle.c_syntax.specs.Trees.{Tree, Forest, none, tree, one}
 use Rattle.c_syntax.specs.Tables.{size}
 use Rattle.c_grammar.specs.Derivation.{IsTreeOf}
 use Rattle.c_types.specs.declared.tree.Func.{Func}
-use Rattle.c_types.specs.declared.tree.Unit.{Unit as Whole}
 use Rattle.c_types.specs.WellMade.{function_names, IsIdentifier}
 use Rattle.c_typing.specs.Places.{Node, nodes, nodes_of}
 use Rattle.c_typing.specs.Names.{places}
-use Rattle.c_typing.specs.Typing.{judgements_at, defined_in, unit_of, IsTyped}
+use Rattle.c_typing.specs.Typing.{judgements_at, defined_in, unit_in}
 use Rattle.c_typing.proofs.MadeFunctions.{functions_more}
 use Rattle.c_typing.proofs.MadeDefined.{Defined, all_defined}
 use Rattle.c_typing.proofs.MadeFunctionNames.{function_name_of}
@@ -63,9 +62,6 @@ module _ (tokens : List Token) (t : Tree) (derived : IsTreeOf tokens t) (all : A
   functions_named = names_of IsIdentifier (filter_map defined_in (judgements_at (places t)))
       (functions_more (Defined t) (λ (f : Func). IsIdentifier f.name) (filter_map defined_in (judgements_at (places t))) function_named (all_defined t))
 
-pub identifiers_are : (bytes : List ℕ) (tokens : List Token) (t : Tree) (u : Whole) → HasTokens bytes tokens → IsTreeOf tokens t → IsTyped t u
-    → AllByRecursion IsIdentifier (function_names u)
-unfolding unit_of
-identifiers_are bytes tokens t u lexed derived typed =
-    subst (λ w. AllByRecursion IsIdentifier (function_names w)) typed.unit
-    (functions_named tokens t derived (tree_named tokens t derived (tokens_spelled bytes tokens lexed)))
+-- where the tokens are those of some bytes
+pub identifiers : (bytes : List ℕ) (tokens : List Token) (t : Tree) → HasTokens bytes tokens → IsTreeOf tokens t → AllByRecursion IsIdentifier (function_names (unit_in (places t) (judgements_at (places t))))
+identifiers bytes tokens t lexed derived = functions_named tokens t derived (tree_named tokens t derived (tokens_spelled bytes tokens lexed))

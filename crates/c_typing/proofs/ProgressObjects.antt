@@ -44,7 +44,7 @@ pub static_is : (k : Entity) → is_static k ≡ true → k ≡ static_object
 static_is static_object e = refl
 static_is _ e = no e
 
-no_functions : (k : Entity) → are_functions k static_object ≡ false
+pub no_functions : (k : Entity) → are_functions k static_object ≡ false
 no_functions function_name = refl
 no_functions _ = refl
 

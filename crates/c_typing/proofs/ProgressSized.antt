@@ -172,7 +172,8 @@ module _ (tokens : List Token) (t : Tree) (derived : IsTreeOf tokens t) (quiet :
       let size = (fronts_empty (object_size (layouts js) d.type at) (name_faults p js e d.type at false) keeps).0 in
       has_or (has_size (layouts js) d.type) at (sym (ap (λ b. if b then [] else incomplete_type (layouts js) d.type at) un) ∙ size)
 
-  sized : (e : Name) → InList (places t).names e → is_static e.entity ≡ true → IsSized t e
+  -- a static object has a type with a size
+  pub sized : (e : Name) → InList (places t).names e → is_static e.entity ≡ true → IsSized t e
   sized e m static = by (stand tokens t derived quiet e m)
     where
       js : List Judgement

@@ -69,6 +69,7 @@ module _ (tokens : List Token) (t : Tree) (derived : IsTreeOf tokens t) (quiet :
   pub record Declared (e : Name) : Type 0 where
     pub owner : Node
     pub at : slice_get (nodes t) e.owner ≡ Some owner
+    pub first : kid owner 0 ≡ e.behind
     pub type : CType
     pub declares : judgement_at (judgements_at (places t)) e.behind ≡ means (declares type)
     pub made : Made (places t) (take e.behind (judgements_at (places t))) (node_at (nodes t) e.behind) type
@@ -131,6 +132,7 @@ module _ (tokens : List Token) (t : Tree) (derived : IsTreeOf tokens t) (quiet :
           record {
             owner = o;
             at = at;
+            first = first;
             type = d.type;
             declares = d.is;
             made = subst (λ (x : Node). Made p (take e.behind js) x d.type) (sym (found_at (nodes t) e.behind w de.whole.at)) made;

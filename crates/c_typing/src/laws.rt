@@ -1,7 +1,8 @@
-// What holds of all derived trees.
+// What holds of all derived trees, and of their typed units.
 ghost use Rattle.std.specs.Prelude.{◌≡◌, ◌⊎◌, ℕ, ◌<◌, true, List, [], length, slice_get, Some};
 ghost use Rattle.std.specs.List.{list_all};
 ghost use Rattle.c_lexer.specs.declared.token.Token.{Token};
+ghost use Rattle.c_lexer.specs.Tokens.{HasTokens};
 ghost use Rattle.c_syntax.specs.declared.kind.SynKind.{SynKind};
 ghost use Rattle.c_syntax.specs.declared.syntax.SynId.{SynId};
 ghost use Rattle.c_syntax.specs.declared.syntax.SynNode.{SynNode};
@@ -11,6 +12,7 @@ ghost use Rattle.c_grammar.specs.Derivation.{IsTreeOf};
 ghost use Rattle.c_typing.specs.Places.{Node, nodes};
 ghost use Rattle.c_typing.specs.ShapesOfNodes.{IsPlaced, HasParent};
 ghost use Rattle.c_types.specs.declared.tree.Unit.{Unit};
+ghost use Rattle.c_types.specs.WellMade.{IsWellMade};
 ghost use Rattle.c_typing.specs.Typing.{faults, IsTyped};
 ghost use Rattle.c_typing.specs.Meant.{IsMeant, IsSound, IsSized, IsUsed, IsLocal, HasOneUnit, IsBroken, IsTooBig};
 ghost use Rattle.c_typing.specs.Names.{Name, places, objects_of, is_automatic};
@@ -94,4 +96,13 @@ pub fn progress()
         → slice_get (nodes t) n ≡ Some m
         → m.label.kind ≡ kind.Var
         → IsUsed t m }
+{}
+
+/// A typed unit is well made, where the tokens are those of some bytes: all that `IsWellMade` asks of a unit holds of it.
+pub fn made()
+    ensures { (bytes : List ℕ) (tokens : List Token) (t : Tree) (u : Unit)
+        → HasTokens bytes tokens
+        → IsTreeOf tokens t
+        → IsTyped t u
+        → IsWellMade u }
 {}

@@ -21,13 +21,15 @@
 //
 // The invariant: a node that breaks a rule has no meaning, and a node that needs the meaning of a part waits where that has none.
 //
-// The theorem, on `progress`: a tree that some token list derives is typed as exactly one unit, or breaks a rule at one of its
-// nodes, or has a size above the limit at one; where no rule is broken and no size is too big, each node has a meaning, with
-// the form of its category (`specs/Meant.antt`). On `shapes`: in a tree that some token list derives, each node has its shape,
-// and so has the node at each place of its table. On `parents`: which nodes a node may be a kid of. On `names`: the lowest node of a declarator is its
-// name, or the place of the absent name, and that of no other tree is one, but that an `InitDecl` begins with its
-// declarator. On `identifiers`: in a derived tree a word among specifiers is a keyword or a typedef name, and a name in an
-// expression is no typedef name. On `nodes`: of the nodes by their places, each has its shape, its lowest node and its parent.
+// The theorems, on `progress` and `made`: a tree that some token list derives is typed as exactly one unit, or breaks a rule at
+// one of its nodes, or has a size above the limit at one; where no rule is broken and no size is too big, each node has a
+// meaning, with the form of its category (`specs/Meant.antt`). Where the tokens are those of some bytes, the unit is well made
+// (`WellMade.antt` of c_types). On `shapes`: in a tree that some token list derives, each node has its shape, and so has the
+// node at each place of its table. On `parents`: which nodes a node may be a kid of. On `names`: the lowest node of a
+// declarator is its name, or the place of the absent name, and that of no other tree is one, but that an `InitDecl` begins
+// with its declarator. On `identifiers`: in a derived tree a word among specifiers is a keyword or a typedef name, and a name
+// in an expression is no typedef name. On `nodes`: of the nodes by their places, each has its shape, its lowest node and its
+// parent.
 //
 // The rows: `proofs/Rows*.antt` compute, from texts, the faults of units that break each rule and of their nearest neighbours that
 // do not, the typed form of each conversion and operator, and whole units. `proofs/Texts.antt` reads the texts. docs/TYPING.md has
@@ -46,12 +48,17 @@
 // facts of `proofs/ShapesBase.antt`; `proofs/ShapesPlaces.antt` and `proofs/ShapesTable.antt` take it to the table;
 // `proofs/ShapesRows.antt` has shapes that hold and shapes that do not.
 //
-// `proofs/Made.antt` has 16 of the 20 facts of a well-made unit (c_types), proved of each typed unit whose functions and declarators
-// have a meaning; it is no law of the crate yet.
+// The proof of `made`: `proofs/MadeUnit.antt` joins the facts. `MadeJudged` is the induction on judgements; `MadeNodes`, `MadePlaced`,
+// `MadeTop` and `MadeWhole` say how nodes stand in each other, and `MadeMeant` brings the meanings of progress. `MadeForms`,
+// `MadeAnything` and `MadeOthers` have what holds of all meanings of a form; `MadeStatements` and `MadeCode` all statements and
+// expressions, from what names something; `MadeNames`, `MadeKept`, `MadeTyped` and `MadeScopes` names, their types and scopes.
+// On these stand the facts: of functions `MadeDefined`, `MadeOnce`, `MadeTexts`, `MadeMain`, `MadeWordsNames`; of what is named
+// `MadeNamed`, `MadeLocals`, `MadeCalled`; of statements `MadeJumps`, `MadeLabels`; of data `MadeSizes`, `MadeData`,
+// `MadeAddresses`, `MadeCellsApart`, `MadeCellsInside`; of copies `MadeCopied`.
 //
 // Source: C99 6.2 to 6.9, without what docs/TYPING.md leaves out.
 #![tactic(auto)]
 
 mod laws;
 
-pub use laws::{identifiers, names, nodes, parents, progress, shapes};
+pub use laws::{identifiers, made, names, nodes, parents, progress, shapes};
