@@ -110,6 +110,7 @@ pub mod MadeOwn
 pub mod MadeParameter
 pub mod MadeLocals
 pub mod MadeConstants
+pub mod MadeAddressesCells
 pub mod MadeAddresses
 pub mod MadeCells
 pub mod MadeCellsParts

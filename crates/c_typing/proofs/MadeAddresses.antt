@@ -1,6 +1,6 @@
 -- Each address in the data has four bytes, and is that of an object.
-use Rattle.std.proofs.Common.{◌≡◌, ℕ, ◌+◌, ◌<◌, Bool, true, false, ◌||◌, not, List, [], ◌∷◌, ◌++◌, length, map, Option, Some, None, refl, sym, ap, ◌∙◌, subst, arith, true≢false, unwrap_or}
-use Rattle.std.specs.Prelude.{slice_get, if◌then◌else◌, option_map, flat_map, codes}
+use Rattle.std.proofs.Common.{◌≡◌, ℕ, ◌<◌, Bool, true, false, ◌||◌, List, [], ◌∷◌, length, map, Option, Some, None, refl, sym, ap, ◌∙◌, arith, true≢false, unwrap_or}
+use Rattle.std.specs.Prelude.{slice_get, if◌then◌else◌, flat_map, codes}
 use Rattle.std.specs.List.{AllByRecursion, range_with_len}
 use Rattle.std.specs.Str.{bytes_eq}
 use Rattle.c_lexer.specs.declared.token.Token.{Token}
@@ -15,15 +15,15 @@ use Rattle.c_types.specs.declared.tree.Object.{Object}
 use Rattle.c_types.specs.declared.tree.Stmt.{Stmt}
 use Rattle.c_types.specs.Forms.{const, choose}
 use Rattle.c_types.specs.WellMade.{AddressFits, InEveryCell}
-use Rattle.c_typing.specs.Types.{CType, void, integer, pointer, array, unsized, struct, function, IntegerType, int, promoted, integer_of, target_of, Layout, size_of, is_array, is_struct, is_scalar, is_text_array}
-use Rattle.c_typing.specs.Places.{Node, nodes, node_at, kind_at, kid, has_kid, is_whole, is_string}
+use Rattle.c_typing.specs.Types.{CType, void, integer, pointer, array, unsized, struct, function, IntegerType, int, promoted, integer_of, target_of, Layout}
+use Rattle.c_typing.specs.Places.{Node, nodes, kid, has_kid, is_whole, is_string}
 use Rattle.c_typing.specs.Names.{places, Name, Entity, typedef_name, function_name, static_object, enumerator, is_static, denoted, objects_of}
-use Rattle.c_typing.specs.Judgements.{Callee, Form, callee, Constant, no_constant, number, address_of, Typing, Fault, Meaning, fills_array, expresses, initialized, initial, declares, Judgement, means, verdict, judgement_at, typing_at, type_at, layouts, all_of}
+use Rattle.c_typing.specs.Judgements.{Callee, Form, callee, Constant, no_constant, number, Typing, Fault, Meaning, fills_array, expresses, initialized, initial, declares, Judgement, means, verdict, judgement_at, typing_at, type_at, layouts, all_of}
 use Rattle.c_typing.specs.Conversions.{valued, value_of, result, Operator, operator_of}
-use Rattle.c_typing.specs.Rules.{bad_conversion, not_constant_for, is_constant_for, out_of_range, broken_if, bad_initializer}
+use Rattle.c_typing.specs.Rules.{bad_initializer}
 use Rattle.c_typing.specs.Constants.{operated, chosen_constant, binary_constant, cast_constant, part_at, address_constant}
 use Rattle.c_typing.specs.Expressions.{literal, expression, type_of_name, word_of_enumerator, field_of, no_field, element_typing, variable_by, variable, prefix_step, postfix_step, subscript_constant, subscript, called, call_by, member_typing, dot, arrow, address_operator, dereference, sign_typing, sign_operator, not_operator, unary, measured_type, cast, operator_with, binary_by, binary_operator, conditional, comma, assignment, compound_by, assign}
-use Rattle.c_typing.specs.Initializers.{braces_by, target, string, constant_cell, text_cells, moved, Part, part, scalar_part, value_part, braced_part, part_by, part_for, part_of, part_offset, kid_part, is_too_long, is_static_name, init_around, count_in, braces_for, braces, initialized_object, init_by, init_declarator, is_object, bare_code}
+use Rattle.c_typing.specs.Initializers.{braces_by, target, string, Part, part_for, kid_part, is_static_name, init_around, count_in, braces_for, braces, initialized_object, init_by, init_declarator, is_object, bare_code}
 use Rattle.c_typing.specs.Shapes as category
 use Rattle.c_typing.specs.ShapesOfNodes.{category_at}
 use Rattle.c_typing.specs.Typing.{in_parentheses, choice_node, judged_by, judgements_at, data_of, object_of, cells_in, declarations_of, literal_object, literals_of, unit_in}
@@ -35,26 +35,23 @@ use Rattle.c_typing.proofs.MadeDefined.{Clean}
 use Rattle.c_typing.proofs.MadeOthers.{is_statement_kind, statement_kind_row, function_row}
 use Rattle.c_typing.proofs.MadeStatements.{is_expression_kind}
 use Rattle.c_typing.proofs.MadeObjects.{data_length, literal_below, object_below}
-use Rattle.c_typing.proofs.MadeConstants.{Fits, value_fits, operated_fits, chosen_fits, binary_fits, cast_fits, part_fits, element_fits, address_fits}
+use Rattle.c_typing.proofs.MadeTexts.{front_none}
+use Rattle.c_typing.proofs.MadeCells.{all_joint}
+use Rattle.c_typing.proofs.MadeAddressesCells.{Okay, CellFits, PartGood, text_good, all_cells, for_good, kid_good}
+use Rattle.c_typing.proofs.MadeConstants.{value_fits, operated_fits, chosen_fits, binary_fits, cast_fits, part_fits, element_fits, address_fits}
 
 module _ (tokens : List Token) (t : Tree) (derived : IsTreeOf tokens t) (ok : Clean t)
     (meant : (n : ℕ) (node : Node) → slice_get (nodes t) n ≡ Some node → category_at t n ≡ category.declarator → is_whole (nodes t) node ≡ true → (u : CType) × (judgement_at (judgements_at (places t)) n ≡ means (declares u))) where
   abbrev Count : ℕ
   Count = length (data_of (places t) (judgements_at (places t)))
 
-  abbrev Okay : Constant → Type 0
-  Okay c = Fits (length (data_of (places t) (judgements_at (places t)))) c
-
-  abbrev CellFits : Cell → Type 0
-  CellFits c = AddressFits (unit_in (places t) (judgements_at (places t))) c.width c.value
-
   abbrev final : ℕ → Judgement
   final n = judgement_at (judgements_at (places t)) n
 
   abbrev Holds : ℕ → Meaning → Type 0
-  Holds n (expresses x h) = final n ≡ means (expresses x h) → Okay x.constant
-  Holds n (initialized u ss cs) = AllByRecursion CellFits cs
-  Holds n (initial k cs) = AllByRecursion CellFits cs
+  Holds n (expresses x h) = final n ≡ means (expresses x h) → Okay t x.constant
+  Holds n (initialized u ss cs) = AllByRecursion (CellFits t) cs
+  Holds n (initial k cs) = AllByRecursion (CellFits t) cs
   Holds n m = Unit {0}
 
   below_all : (o : ℕ) → o < length (objects_of (places t)) → o < length (data_of (places t) (judgements_at (places t)))
@@ -64,14 +61,14 @@ module _ (tokens : List Token) (t : Tree) (derived : IsTreeOf tokens t) (ok : Cl
     later : (k : ℕ) (m : Meaning) → judgement_at js k ≡ means m → final k ≡ means m
     later k m e = ap (λ q. judgement_at q k) front.1 ∙ meant_later js front.0 k m e
 
-    at_kid : (k : ℕ) (x : Typing) → typing_at js k ≡ Some x → Okay x.constant
+    at_kid : (k : ℕ) (x : Typing) → typing_at js k ≡ Some x → Okay t x.constant
     at_kid k x e = let m = typing_meant (judgement_at js k) x e in known k (expresses x m.0) m.1 (later k (expresses x m.0) m.1)
 
-    value_at : (k : ℕ) (x : Typing) → typing_at js k ≡ Some x → Okay (value_of x).constant
+    value_at : (k : ℕ) (x : Typing) → typing_at js k ≡ Some x → Okay t (value_of x).constant
     value_at k x e = value_fits (length (data_of (places t) (judgements_at (places t)))) x (at_kid k x e)
 
-    B : ℕ
-    B = length (data_of (places t) (judgements_at (places t)))
+    cells_at : (n k : ℕ) (cs : List Cell) → judgement_at js n ≡ means (initial k cs) → AllByRecursion (CellFits t) cs
+    cells_at n k cs e = known n (initial k cs) e
 
     -- ---- what may name an object
 
@@ -109,7 +106,7 @@ module _ (tokens : List Token) (t : Tree) (derived : IsTreeOf tokens t) (ok : Cl
     unfolding prefix_step
     prefix_row x = yields_verdict (Holds (length js)) _ (expresses (result x.type _ no_constant) _) (λ j. tt)
 
-    address_row : (x : Typing) → Okay x.constant → Yields (Holds (length js)) (address_operator node x)
+    address_row : (x : Typing) → Okay t x.constant → Yields (Holds (length js)) (address_operator node x)
     unfolding address_operator
     address_row x h = yields_verdict (Holds (length js)) _ (expression (valued (pointer x.type) x.code (address_constant x.constant))) (λ j. address_fits (length (data_of (places t) (judgements_at (places t)))) x.constant h)
 
@@ -127,34 +124,34 @@ module _ (tokens : List Token) (t : Tree) (derived : IsTreeOf tokens t) (ok : Cl
     unfolding not_operator
     not_row v = yields_verdict (Holds (length js)) _ (expression (valued (integer int) _ (operated op.Eq node.id v.constant (number 0)))) (λ j. operated_fits (length (data_of (places t) (judgements_at (places t)))) op.Eq node.id v.constant (number 0))
 
-    sign_good : (n : ℕ) (k : IntegerType) (text : List ℕ) (v : Typing) → Okay v.constant → Okay (sign_typing n k text v).constant
+    sign_good : (n : ℕ) (k : IntegerType) (text : List ℕ) (v : Typing) → Okay t v.constant → Okay t (sign_typing n k text v).constant
     sign_good n k text v h = by (bytes_eq text (codes "-")) refl
       where
-        last : (b : Bool) → bytes_eq text (codes "~") ≡ b → bytes_eq text (codes "-") ≡ false → Okay (sign_typing n k text v).constant
+        last : (b : Bool) → bytes_eq text (codes "~") ≡ b → bytes_eq text (codes "-") ≡ false → Okay t (sign_typing n k text v).constant
         last true e f = rw f (rw e (operated_fits (length (data_of (places t) (judgements_at (places t)))) op.Xor n v.constant _))
         last false e f = rw f (rw e h)
 
-        by : (b : Bool) → bytes_eq text (codes "-") ≡ b → Okay (sign_typing n k text v).constant
+        by : (b : Bool) → bytes_eq text (codes "-") ≡ b → Okay t (sign_typing n k text v).constant
         by true e = rw e (operated_fits (length (data_of (places t) (judgements_at (places t)))) _ n (number 0) v.constant)
         by false e = last (bytes_eq text (codes "~")) refl e
 
-    sign_row : (v : Typing) → Okay v.constant → Yields (Holds (length js)) (sign_operator node v)
+    sign_row : (v : Typing) → Okay t v.constant → Yields (Holds (length js)) (sign_operator node v)
     unfolding sign_operator
     sign_row v h = yields_verdict (Holds (length js)) _ (expression (sign_typing node.id (promoted (integer_of v.type)) node.label.text v)) (λ j. sign_good node.id (promoted (integer_of v.type)) node.label.text v h)
 
-    unary_row : (x : Typing) → Okay x.constant → Okay (value_of x).constant → Yields (Holds (length js)) (unary (places t) js node x)
+    unary_row : (x : Typing) → Okay t x.constant → Okay t (value_of x).constant → Yields (Holds (length js)) (unary (places t) js node x)
     unfolding unary
     unary_row x h g =
         let a = address_row x h in
         let s = sign_row (value_of x) g in
         search (yields_if, a, dereference_row, not_row, prefix_row, s) depth 8
 
-    binary_by_row : (x y : Typing) → Okay x.constant → Okay y.constant → (o : Operator) → Yields (Holds (length js)) (binary_by js node x y o)
+    binary_by_row : (x y : Typing) → Okay t x.constant → Okay t y.constant → (o : Operator) → Yields (Holds (length js)) (binary_by js node x y o)
     unfolding binary_by
     binary_by_row x y h g o = yields_verdict (Holds (length js)) _ (expression (valued _ _ (binary_constant (layouts js) (operator_with o o.class x.type y.type) node.id o.class x.type y.type x.constant y.constant)))
         (λ j. binary_fits (length (data_of (places t) (judgements_at (places t)))) (layouts js) (operator_with o o.class x.type y.type) node.id o.class x.type y.type x.constant y.constant h g)
 
-    binary_row : (x y : Typing) → Okay x.constant → Okay y.constant → Yields (Holds (length js)) (binary_operator js node x y)
+    binary_row : (x y : Typing) → Okay t x.constant → Okay t y.constant → Yields (Holds (length js)) (binary_operator js node x y)
     unfolding binary_operator
     binary_row x y h g = yields_given (Holds (length js)) (operator_of node.label.text) (binary_by js node x y) (λ o e. binary_by_row x y h g o)
 
@@ -180,7 +177,7 @@ module _ (tokens : List Token) (t : Tree) (derived : IsTreeOf tokens t) (ok : Cl
         yields_verdict (Holds (length js)) _ (expression (result _ (choose (value_of z).code (value_of x).code (value_of y).code) (chosen_constant (value_of z).constant (value_of x).constant (value_of y).constant)))
         (λ j. chosen_fits (length (data_of (places t) (judgements_at (places t)))) (value_of z).constant (value_of x).constant (value_of y).constant (value_at (kid node 1) x g) (value_at (kid node 2) y h))))))
 
-    dot_row : (x : Typing) → Okay x.constant → Yields (Holds (length js)) (dot js node x)
+    dot_row : (x : Typing) → Okay t x.constant → Yields (Holds (length js)) (dot js node x)
     unfolding dot
     dot_row x h = yields_verdict (Holds (length js)) _ (expression (member_typing _ x.code (unwrap_or (field_of (layouts js) x.type node.label.text) no_field) (part_at _ x.constant))) (λ j. part_fits (length (data_of (places t) (judgements_at (places t)))) _ x.constant h)
 
@@ -192,7 +189,7 @@ module _ (tokens : List Token) (t : Tree) (derived : IsTreeOf tokens t) (ok : Cl
     unfolding measured_type
     measured_row u k = yields_verdict (Holds (length js)) _ (expression _) (λ j. tt)
 
-    cast_row : (u : CType) (v : Typing) → Okay v.constant → Yields (Holds (length js)) (cast node u v)
+    cast_row : (u : CType) (v : Typing) → Okay t v.constant → Yields (Holds (length js)) (cast node u v)
     unfolding cast
     cast_row u v h = yields_verdict (Holds (length js)) _ (expression (result u _ (cast_constant u v.type v.constant))) (λ j. cast_fits (length (data_of (places t) (judgements_at (places t)))) u v.type v.constant h)
 
@@ -223,109 +220,6 @@ module _ (tokens : List Token) (t : Tree) (derived : IsTreeOf tokens t) (ok : Cl
     free (initial k cs) q = absurd (true≢false q)
     free _ q = tt
 
-    -- ---- cells
-
-    text_good : (at : ℕ) (bytes : List ℕ) → AllByRecursion CellFits (text_cells at bytes)
-    text_good at [] = tt
-    text_good at (b ∷ bs) = (tt, text_good (at + 1) bs)
-
-    moved_good : (by : ℕ) (cs : List Cell) → AllByRecursion CellFits cs → AllByRecursion CellFits (map (moved by) cs)
-    moved_good by [] h = tt
-    moved_good by (c ∷ cs) h = (h.0, moved_good by cs h.1)
-
-    -- a part's cells fit, where it has no faults
-    abbrev PartGood : Part → Type 0
-    PartGood q = q.faults ≡ [] → AllByRecursion CellFits q.cells
-
-    no_front : (xs ys : List Fault) → xs ++ ys ≡ [] → xs ≡ []
-    no_front [] ys e = refl
-    no_front (x ∷ xs) ys e = absurd (cc e)
-
-    no_back : (xs ys : List Fault) → xs ++ ys ≡ [] → ys ≡ []
-    no_back [] ys e = e
-    no_back (x ∷ xs) ys e = absurd (cc e)
-
-    pointer_size : (ls : List Layout) (u : CType) (o a : ℕ) → is_constant_for u (address_of o a) ≡ true → size_of ls u ≡ 4
-    pointer_size ls (pointer w) o a e = refl
-    pointer_size ls void o a e = absurd (true≢false (sym e))
-    pointer_size ls (array u n) o a e = absurd (true≢false (sym e))
-    pointer_size ls (unsized u) o a e = absurd (true≢false (sym e))
-    pointer_size ls (struct k) o a e = absurd (true≢false (sym e))
-    pointer_size ls (function r ps) o a e = absurd (true≢false (sym e))
-    pointer_size ls (integer IntegerType.bool) o a e = absurd (true≢false (sym e))
-    pointer_size ls (integer IntegerType.char) o a e = absurd (true≢false (sym e))
-    pointer_size ls (integer IntegerType.schar) o a e = absurd (true≢false (sym e))
-    pointer_size ls (integer IntegerType.uchar) o a e = absurd (true≢false (sym e))
-    pointer_size ls (integer IntegerType.short) o a e = absurd (true≢false (sym e))
-    pointer_size ls (integer IntegerType.ushort) o a e = absurd (true≢false (sym e))
-    pointer_size ls (integer IntegerType.int) o a e = absurd (true≢false (sym e))
-    pointer_size ls (integer IntegerType.uint) o a e = absurd (true≢false (sym e))
-    pointer_size ls (integer IntegerType.long) o a e = absurd (true≢false (sym e))
-    pointer_size ls (integer IntegerType.ulong) o a e = absurd (true≢false (sym e))
-
-    allowed : (u : CType) (c : Constant) (n : ℕ) → not_constant_for u c n ≡ [] → is_constant_for u c ≡ true
-    allowed u c n e = by (is_constant_for u c) e
-      where
-        by : (b : Bool) → broken_if (not b) 8 n ≡ [] → b ≡ true
-        by true g = refl
-        by false g = absurd (cc g)
-
-    constant_good : (ls : List Layout) (u : CType) (at : ℕ) (c : Constant) → Okay c → is_constant_for u c ≡ true → AllByRecursion CellFits (constant_cell u at (size_of ls u) c)
-    constant_good ls u at (address_of o a) h e = ((pointer_size ls u o a e, h), tt)
-    constant_good ls u at (number w) h e = (tt, tt)
-    constant_good ls u at _ h e = (tt, tt)
-
-    scalar_good : (ls : List Layout) (static : Bool) (u : CType) (v : Typing) (n : ℕ) → Okay v.constant → PartGood (scalar_part ls static u v n)
-    scalar_good ls false u v n h e = tt
-    scalar_good ls true u v n h e = constant_good ls u 0 v.constant h (allowed u v.constant n (no_front (not_constant_for u v.constant n) (out_of_range v.constant) (no_back (bad_conversion u v n) (not_constant_for u v.constant n ++ out_of_range v.constant) e)))
-
-    if_part : (b : Bool) (p q r : Part) → PartGood p → PartGood q → (if b then Some p else Some q) ≡ Some r → PartGood r
-    if_part true p q r h g e = let same : p ≡ r = cc e in subst PartGood same h
-    if_part false p q r h g e = let same : q ≡ r = cc e in subst PartGood same g
-
-    value_good : (ls : List Layout) (static : Bool) (u : CType) (n : ℕ) (o : Option Typing) (q : Part) → ((x : Typing) → o ≡ Some x → Okay (value_of x).constant) → value_part ls static u n o ≡ Some q → PartGood q
-    value_good ls static u n None q h e = absurd (cc e)
-    value_good ls static u n (Some x) q h e = if_part (is_array u || is_struct u) (part [] (bad_initializer true n)) (scalar_part ls static u (value_of x) n) q (λ g. tt) (scalar_good ls static u (value_of x) n (h x refl)) e
-
-    braced_good : (n : ℕ) (again : Bool) (j : Judgement) (q : Part) → ((k : ℕ) (cs : List Cell) → j ≡ means (initial k cs) → AllByRecursion CellFits cs) → braced_part n again j ≡ Some q → PartGood q
-    braced_good n again (means (initial k cs)) q h e = let same : part cs (bad_initializer again n) ≡ q = cc e in subst PartGood same (λ g. h k cs refl)
-    braced_good n again _ q h e = absurd (cc e)
-
-    text_part : (static again : Bool) (u : CType) (m : Node) (b : Bool) (q : Part) → (if b then Some (part (text_cells 0 m.label.bytes) (bad_initializer (is_too_long u (length m.label.bytes)) m.id)) else value_part (layouts js) static u m.id (typing_at js m.id)) ≡ Some q → PartGood q
-    text_part static again u m true q e = let same : part (text_cells 0 m.label.bytes) (bad_initializer (is_too_long u (length m.label.bytes)) m.id) ≡ q = cc e in subst PartGood same (λ g. text_good 0 m.label.bytes)
-    text_part static again u m false q e = value_good (layouts js) static u m.id (typing_at js m.id) q (λ x h. value_at m.id x h) e
-
-    by_good : (static again : Bool) (u : CType) (m : Node) (k : SynKind) (q : Part) → part_by (places t) js static again u m k ≡ Some q → PartGood q
-    by_good static again u m kind.Braces q e = braced_good m.id again (judgement_at js m.id) q (λ k cs h. known m.id (initial k cs) h) e
-    by_good static again u m kind.Str q e = text_part static again u m (is_text_array u) q e
-    by_good static again u m _ q e = value_good (layouts js) static u m.id (typing_at js m.id) q (λ x h. value_at m.id x h) e
-
-    for_good : (static again : Bool) (u : CType) (n : ℕ) (q : Part) → part_for (places t) js static again u n ≡ Some q → PartGood q
-    for_good static again u n q e = by_good static again u (node_at (nodes t) n) (kind_at (nodes t) n) q e
-
-    shifted : (by : ℕ) (o : Option Part) (q : Part) → ((r : Part) → o ≡ Some r → PartGood r) → option_map (λ (r : Part). record r { cells = map (moved by) r.cells }) o ≡ Some q → PartGood q
-    shifted by None q h e = absurd (cc e)
-    shifted by (Some r) q h e = let same : record r { cells = map (moved by) r.cells } ≡ q = cc e in subst PartGood same (λ g. moved_good by r.cells (h r refl g))
-
-    kid_good : (static : Bool) (u : CType) (i : ℕ) (q : Part) → kid_part (places t) js static u node i ≡ Some q → PartGood q
-    kid_good static u i q e = by (part_of (places t) (layouts js) node i u) refl
-      where
-        by : (o : Option CType) → part_of (places t) (layouts js) node i u ≡ o → PartGood q
-        by None g =
-            let is : kid_part (places t) js static u node i ≡ Some (part [] []) = rw g refl in
-            let same : part [] [] ≡ q = cc (sym is ∙ e) in subst PartGood same (λ f. tt)
-        by (Some w) g =
-            let is : kid_part (places t) js static u node i ≡ option_map (λ (r : Part). record r { cells = map (moved (part_offset (layouts js) u i)) r.cells }) (part_for (places t) js static (is_scalar u) w (kid node i)) = rw g refl in
-            shifted (part_offset (layouts js) u i) (part_for (places t) js static (is_scalar u) w (kid node i)) q (λ r h. for_good static (is_scalar u) w (kid node i) r h) (sym is ∙ e)
-
-    all_cells : (parts : List Part) → AllByRecursion PartGood parts → flat_map (λ (q : Part). q.faults) parts ≡ [] → AllByRecursion CellFits (flat_map (λ (q : Part). q.cells) parts)
-    all_cells [] h e = tt
-    all_cells (q ∷ parts) h e = both q.cells (flat_map (λ (r : Part). r.cells) parts) (h.0 (no_front q.faults (flat_map (λ (r : Part). r.faults) parts) e)) (all_cells parts h.1 (no_back q.faults (flat_map (λ (r : Part). r.faults) parts) e))
-      where
-        both : (xs ys : List Cell) → AllByRecursion CellFits xs → AllByRecursion CellFits ys → AllByRecursion CellFits (xs ++ ys)
-        both [] ys a b = b
-        both (x ∷ xs) ys a b = (a.0, both xs ys a.1 b)
-
     verdict_kept : (fs : List Fault) (m : Meaning) → (fs ≡ [] → Holds (length js) m) → Yields (Holds (length js)) (verdict fs m)
     verdict_kept [] m h = h refl
     verdict_kept (f ∷ fs) m h = tt
@@ -334,7 +228,7 @@ module _ (tokens : List Token) (t : Tree) (derived : IsTreeOf tokens t) (ok : Cl
     unfolding braces_for
     braces_for_row u = yields_besides (Holds (length js)) _ _ (yields_given (Holds (length js)) (all_of (map (kid_part (places t) js (is_static_name (init_around (places t) node)) u node) (range_with_len 0 (length node.kids)))) _ (λ parts g.
         verdict_kept (flat_map (λ (q : Part). q.faults) parts) (initial (count_in (places t) u node) (flat_map (λ (q : Part). q.cells) parts))
-        (all_cells parts (all_parts (kid_part (places t) js (is_static_name (init_around (places t) node)) u node) PartGood (range_with_len 0 (length node.kids)) parts (λ i q h e. kid_good (is_static_name (init_around (places t) node)) u i q e) g))))
+        (all_cells t parts (all_parts (kid_part (places t) js (is_static_name (init_around (places t) node)) u node) (PartGood t) (range_with_len 0 (length node.kids)) parts (λ i q h e. kid_good t js value_at cells_at node (is_static_name (init_around (places t) node)) u i q e) g))))
 
     nothing : (n : ℕ) → Holds (length js) (initial n [])
     nothing n = tt
@@ -347,9 +241,9 @@ module _ (tokens : List Token) (t : Tree) (derived : IsTreeOf tokens t) (ok : Cl
         by None = nothing 0
         by (Some u) = braces_for_row u
 
-    object_row : (n : ℕ) (e : Name) (u : CType) (q : Part) → PartGood q → Yields (Holds (length js)) (initialized_object (places t) js n e u q)
+    object_row : (n : ℕ) (e : Name) (u : CType) (q : Part) → PartGood t q → Yields (Holds (length js)) (initialized_object (places t) js n e u q)
     unfolding initialized_object
-    object_row n e u q h = verdict_kept _ (initialized _ _ q.cells) (λ g. h (no_front q.faults _ g))
+    object_row n e u q h = verdict_kept _ (initialized _ _ q.cells) (λ g. h (front_none q.faults _ g))
 
     bare : (u : CType) (ss : List Stmt) → Holds (length js) (initialized u ss [])
     bare u ss = tt
@@ -357,7 +251,7 @@ module _ (tokens : List Token) (t : Tree) (derived : IsTreeOf tokens t) (ok : Cl
     init_by_row : (u : CType) (e : Name) → Yields (Holds (length js)) (init_by (places t) js node u e)
     unfolding init_by
     init_by_row u e = yields_if (Holds (length js)) (has_kid node 1) _ (means (initialized u (bare_code (places t) e e.entity) []))
-        (yields_if (Holds (length js)) (is_object e.entity) _ (verdict (bad_initializer true (kid node 1)) (initialized u [] [])) (yields_given (Holds (length js)) (part_for (places t) js (is_static e.entity) false u (kid node 1)) (initialized_object (places t) js (kid node 1) e u) (λ q g. object_row (kid node 1) e u q (for_good (is_static e.entity) false u (kid node 1) q g))) tt) tt
+        (yields_if (Holds (length js)) (is_object e.entity) _ (verdict (bad_initializer true (kid node 1)) (initialized u [] [])) (yields_given (Holds (length js)) (part_for (places t) js (is_static e.entity) false u (kid node 1)) (initialized_object (places t) js (kid node 1) e u) (λ q g. object_row (kid node 1) e u q (for_good t js value_at cells_at (is_static e.entity) false u (kid node 1) q g))) tt) tt
 
     init_row : Yields (Holds (length js)) (init_declarator (places t) js node)
     unfolding init_declarator
@@ -365,19 +259,19 @@ module _ (tokens : List Token) (t : Tree) (derived : IsTreeOf tokens t) (ok : Cl
 
     -- ---- all of them
 
-    if_typing : (b : Bool) (x y : Typing) → Okay x.constant → Okay y.constant → Okay (if b then x else y).constant
+    if_typing : (b : Bool) (x y : Typing) → Okay t x.constant → Okay t y.constant → Okay t (if b then x else y).constant
     if_typing true x y h g = h
     if_typing false x y h g = g
 
-    subscript_good : (size : ℕ) (u : CType) (x y : Typing) → Okay x.constant → Okay y.constant → Okay (subscript_constant size u x y)
+    subscript_good : (size : ℕ) (u : CType) (x y : Typing) → Okay t x.constant → Okay t y.constant → Okay t (subscript_constant size u x y)
     subscript_good size (pointer u) x y h g = element_fits (length (data_of (places t) (judgements_at (places t)))) size y.constant x.constant g
     subscript_good size u x y h g = element_fits (length (data_of (places t) (judgements_at (places t)))) size x.constant y.constant h
 
-    element_good : (ls : List Layout) (w u : CType) (x y : Typing) (c : Constant) → Okay c → Holds (length js) (expression (element_typing ls w u x y c))
+    element_good : (ls : List Layout) (w u : CType) (x y : Typing) (c : Constant) → Okay t c → Holds (length js) (expression (element_typing ls w u x y c))
     element_good ls w (pointer u) x y c h j = h
     element_good ls w u x y c h j = h
 
-    subscript_row : (x y : Typing) → Okay x.constant → Okay (value_of x).constant → Okay y.constant → Okay (value_of y).constant → Yields (Holds (length js)) (subscript js node x y)
+    subscript_row : (x y : Typing) → Okay t x.constant → Okay t (value_of x).constant → Okay t y.constant → Okay t (value_of y).constant → Yields (Holds (length js)) (subscript js node x y)
     unfolding subscript
     subscript_row x y h hv g gv = search (yields_verdict, element_good, subscript_good, if_typing)
 
@@ -420,36 +314,24 @@ module _ (tokens : List Token) (t : Tree) (derived : IsTreeOf tokens t) (ok : Cl
   all_hold : Known (places t) Holds (judgements_at (places t))
   all_hold = all_known (places t) Holds (λ js node there front known. row js node there front known node.label.kind refl)
 
-  judged_cells : (k : ℕ) (j : Judgement) → judgement_at (judgements_at (places t)) k ≡ j → AllByRecursion CellFits (cells_in j)
+  judged_cells : (k : ℕ) (j : Judgement) → judgement_at (judgements_at (places t)) k ≡ j → AllByRecursion (CellFits t) (cells_in j)
   judged_cells k (means (initialized u ss cs)) e = all_hold k (initialized u ss cs) e
   judged_cells k _ e = tt
 
-  flat_cells : (list : List Name) → AllByRecursion CellFits (flat_map (λ (a : Name). cells_in (judgement_at (judgements_at (places t)) a.owner)) list)
+  flat_cells : (list : List Name) → AllByRecursion (CellFits t) (flat_map (λ (a : Name). cells_in (judgement_at (judgements_at (places t)) a.owner)) list)
   flat_cells [] = tt
-  flat_cells (a ∷ list) = both (cells_in (judgement_at (judgements_at (places t)) a.owner)) (flat_map (λ (b : Name). cells_in (judgement_at (judgements_at (places t)) b.owner)) list) (judged_cells a.owner (judgement_at (judgements_at (places t)) a.owner) refl) (flat_cells list)
-    where
-      both : (xs ys : List Cell) → AllByRecursion CellFits xs → AllByRecursion CellFits ys → AllByRecursion CellFits (xs ++ ys)
-      both [] ys a b = b
-      both (x ∷ xs) ys a b = (a.0, both xs ys a.1 b)
+  flat_cells (a ∷ list) = all_joint (CellFits t) (cells_in (judgement_at (judgements_at (places t)) a.owner)) (flat_map (λ (b : Name). cells_in (judgement_at (judgements_at (places t)) b.owner)) list) (judged_cells a.owner (judgement_at (judgements_at (places t)) a.owner) refl) (flat_cells list)
 
   abbrev ObjectFits : Object → Type 0
-  ObjectFits o = AllByRecursion CellFits o.cells
+  ObjectFits o = AllByRecursion (CellFits t) o.cells
 
   objects_fit : (es : List Name) → AllByRecursion ObjectFits (map (object_of (places t) (judgements_at (places t))) es)
   objects_fit [] = tt
   objects_fit (e ∷ es) = (flat_cells (declarations_of (places t) e), objects_fit es)
 
-  literal_cells : (at : ℕ) (bytes : List ℕ) → AllByRecursion CellFits (text_cells at bytes)
-  literal_cells at [] = tt
-  literal_cells at (b ∷ bs) = (tt, literal_cells (at + 1) bs)
-
   literals_fit : (ns : List Node) → AllByRecursion ObjectFits (map (λ (n : Node). literal_object n.label.bytes) ns)
   literals_fit [] = tt
-  literals_fit (n ∷ ns) = (literal_cells 0 n.label.bytes, literals_fit ns)
-
-  all_two : (xs ys : List Object) → AllByRecursion ObjectFits xs → AllByRecursion ObjectFits ys → AllByRecursion ObjectFits (xs ++ ys)
-  all_two [] ys h g = g
-  all_two (x ∷ xs) ys h g = (h.0, all_two xs ys h.1 g)
+  literals_fit (n ∷ ns) = (text_good t 0 n.label.bytes, literals_fit ns)
 
   pub addresses : InEveryCell (unit_in (places t) (judgements_at (places t))) (λ o c. AddressFits (unit_in (places t) (judgements_at (places t))) c.width c.value)
-  addresses = all_two (map (object_of (places t) (judgements_at (places t))) (objects_of (places t))) (map (λ (n : Node). literal_object n.label.bytes) (literals_of (places t) (judgements_at (places t)))) (objects_fit (objects_of (places t))) (literals_fit (literals_of (places t) (judgements_at (places t))))
+  addresses = all_joint ObjectFits (map (object_of (places t) (judgements_at (places t))) (objects_of (places t))) (map (λ (n : Node). literal_object n.label.bytes) (literals_of (places t) (judgements_at (places t)))) (objects_fit (objects_of (places t))) (literals_fit (literals_of (places t) (judgements_at (places t))))
