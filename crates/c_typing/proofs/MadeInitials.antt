@@ -10,6 +10,7 @@ use Rattle.c_typing.specs.Places.{Node, nodes, kid, is_init}
 use Rattle.c_typing.specs.Shapes as category
 use Rattle.c_typing.specs.Shapes.{Category, category_by, stands_in, holds_statements}
 use Rattle.c_typing.specs.ShapesOfNodes.{category_at, HasParent}
+use Rattle.c_typing.proofs.ProgressPlaces.{compare}
 use Rattle.c_typing.proofs.MadeNodes.{In, in_at, in_back, nested, kid_within, node_below}
 use Rattle.c_typing.proofs.MadePlaced.{numbered, found}
 use Rattle.c_typing.proofs.MadeTop.{category_is, unit_is_root, has_parent}
@@ -82,9 +83,6 @@ unfolding category_by
 by_init k text cs e = rw e refl
 
 -- ---- nodes of a derived tree
-
-compare : (a b : ℕ) → (a < b) ⊎ (b ≤ a)
-compare a b = grind arith
 
 less_or : (a b : ℕ) → a ≤ b → (a < b) ⊎ (a ≡ b)
 less_or a b le = grind arith
