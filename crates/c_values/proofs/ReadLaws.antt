@@ -15,6 +15,8 @@ use Rattle.c_type_ids.specs.declared.integers.Integer.{Integer}
 use Rattle.c_type_ids.specs.Integers.{integer_of}
 use Rattle.c_values.specs.declared.conversions.Shown.TheVariants as shown
 use Rattle.c_values.specs.declared.typings.Typing.{Typing}
+use Rattle.c_values.specs.declared.typings.«Type».{«Type» as TypeForm}
+use Rattle.c_values.specs.declared.typings.«Type».TheVariants as type
 use Rattle.c_values.specs.Typings.{IsType, Is, ShownAs}
 
 -- an array, by its element
@@ -95,3 +97,20 @@ integer_is k i (array t n) h = absurd h
 integer_is k i (unsized t) h = absurd h
 integer_is k i (struct node) h = absurd h
 integer_is k i (function t ts) h = absurd h
+
+-- a type that an id names is no array without a length, and no pointer to one
+pub known_to_unsized : (k : Known) (id : TypeId) (t u : CType) → Names k id t → same t (pointer (unsized u)) ≡ false
+known_to_unsized k id void u h = refl
+known_to_unsized k id (integer t) u h = refl
+known_to_unsized k id (pointer t) u (to, has, h) = known_unsized k to t u h
+known_to_unsized k id (array t n) u h = refl
+known_to_unsized k id (unsized t) u h = absurd h
+known_to_unsized k id (struct node) u h = refl
+known_to_unsized k id (function t ts) u h = refl
+
+pub known_other : (k : Known) (id : TypeId) (b : TypeForm) (t u : CType) → ((other : TypeId) → b ≢ type.Known other) → Names k id t → IsType k b u → same t u ≡ false
+known_other k id (type.Known other) t u n h i = absurd (n other refl)
+known_other k id (type.Unsized other) t (unsized u) n h i = known_unsized k id t u h
+known_other k id (type.Unsized other) t u n h i = absurd i
+known_other k id (type.ToUnsized other) t (pointer (unsized u)) n h i = known_to_unsized k id t u h
+known_other k id (type.ToUnsized other) t u n h i = absurd i

@@ -17,11 +17,12 @@ use c_types::{Expr, StructId, TypeId};
 use cp_base::{Kind as Access, To};
 use std::alloc::{AllocError, Global};
 
-/// What a type is; of an array without a length, its elements.
+/// What a type is; of an array without a length, and of a pointer to it, its elements.
 #[derive(Clone, Copy)]
 pub enum Shown {
     Kind(Kind),
     Unsized(TypeId),
+    ToUnsized(TypeId),
 }
 
 pub fn kind_of(table: &TypeTable, kind: Type) -> Shown
@@ -31,6 +32,7 @@ pub fn kind_of(table: &TypeTable, kind: Type) -> Shown
     match kind {
         Type::Known(id) => Shown::Kind(table.kind(id)),
         Type::Unsized(element) => Shown::Unsized(element),
+        Type::ToUnsized(element) => Shown::ToUnsized(element),
     }
 }
 
@@ -77,6 +79,7 @@ fn read(alloc: Global, table: &mut TypeTable, typing: Typing) -> Result<Typing, 
             ..typing
         }),
         Shown::Kind(kind) => loaded(alloc, access_of(kind), typing),
+        Shown::ToUnsized(_) => loaded(alloc, Access::W32, typing),
     }
 }
 
@@ -115,6 +118,7 @@ pub fn is_same(table: &TypeTable, left: Type, right: Type) -> bool
     match (left, right) {
         (Type::Known(left), Type::Known(right)) => table.is_same(left, right),
         (Type::Unsized(left), Type::Unsized(right)) => table.is_same(left, right),
+        (Type::ToUnsized(left), Type::ToUnsized(right)) => table.is_same(left, right),
         _ => false,
     }
 }
@@ -161,6 +165,7 @@ pub fn is_assignable(table: &TypeTable, to: Type, from: Type, is_null: bool) -> 
     match kind_of(table, to) {
         Shown::Kind(kind) => takes(table, kind, source, is_null),
         Shown::Unsized(_) => false,
+        Shown::ToUnsized(element) => unsized_pointer_takes(table, element, source, is_null),
     }
 }
 
@@ -182,7 +187,7 @@ fn integer_takes(to: Integer, from: Shown) -> bool
 {
     match from {
         Shown::Kind(Kind::Integer(_)) => true,
-        Shown::Kind(Kind::Pointer(_)) => matches!(to, Integer::Bool),
+        Shown::Kind(Kind::Pointer(_)) | Shown::ToUnsized(_) => matches!(to, Integer::Bool),
         _ => false,
     }
 }
@@ -199,6 +204,20 @@ fn pointer_takes(table: &TypeTable, target: TypeId, from: Shown, is_null: bool) 
                 || is_void(table, source)
                 || is_null
         }
+        Shown::ToUnsized(_) => is_void(table, target) || is_null,
+        _ => is_null,
+    }
+}
+
+// A pointer to an array without a length, which has these elements.
+fn unsized_pointer_takes(table: &TypeTable, element: TypeId, from: Shown, is_null: bool) -> bool
+    requires { (u : types.CType) × ShownAs table.now from u }
+    ensures { (t u : types.CType) → Names table.now element t → ShownAs table.now from u →
+        result ≡ conversions.is_assignable_by (types.pointer (types.unsized t)) u is_null }
+{
+    match from {
+        Shown::ToUnsized(other) => table.is_same(element, other) || is_null,
+        Shown::Kind(Kind::Pointer(source)) => is_void(table, source) || is_null,
         _ => is_null,
     }
 }

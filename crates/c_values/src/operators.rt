@@ -89,7 +89,7 @@ fn common_type(left: Shown, right: Shown) -> ResultType
 {
     match left {
         Shown::Kind(left) => common_type_by(left, right),
-        Shown::Unsized(_) => ResultType::None,
+        Shown::Unsized(_) | Shown::ToUnsized(_) => ResultType::None,
     }
 }
 
@@ -117,7 +117,7 @@ fn shift_type(left: Shown, right: Shown) -> ResultType
 {
     match left {
         Shown::Kind(left) => shift_type_by(left, right),
-        Shown::Unsized(_) => ResultType::None,
+        Shown::Unsized(_) | Shown::ToUnsized(_) => ResultType::None,
     }
 }
 
@@ -195,7 +195,7 @@ fn difference_type(table: &TypeTable, left: Shown, right: Shown) -> ResultType
 {
     match left {
         Shown::Kind(left) => difference_type_by(table, left, right),
-        Shown::Unsized(_) => ResultType::None,
+        Shown::Unsized(_) | Shown::ToUnsized(_) => ResultType::None,
     }
 }
 
@@ -231,6 +231,7 @@ fn pointer_difference(table: &TypeTable, target: TypeId, right: Shown) -> Result
         Shown::Kind(Kind::Pointer(other)) if table.is_same(target, other) => {
             where_sized(table, target, ResultType::Integer(Integer::Int))
         }
+        Shown::ToUnsized(_) => ResultType::None,
         _ => ResultType::None,
     }
 }
@@ -255,7 +256,7 @@ pub fn is_integer(shown: Shown) -> bool
 pub fn is_pointer(shown: Shown) -> bool
     ensures { (k : Known) (t : types.CType) → ShownAs k shown t → result ≡ types.is_pointer t }
 {
-    matches!(shown, Shown::Kind(Kind::Pointer(_)))
+    matches!(shown, Shown::Kind(Kind::Pointer(_)) | Shown::ToUnsized(_))
 }
 
 pub fn is_scalar(shown: Shown) -> bool
@@ -270,8 +271,8 @@ fn are_scalar(left: Shown, right: Shown) -> bool
     is_scalar(left) && is_scalar(right)
 }
 
-// A pointer to `void`.
-fn points_to_void(table: &TypeTable, shown: Shown) -> bool
+/// A pointer to `void`.
+pub fn points_to_void(table: &TypeTable, shown: Shown) -> bool
     requires { (t : types.CType) × ShownAs table.now shown t }
     ensures { (t : types.CType) → ShownAs table.now shown t → result ≡ conversions.points_to_void t }
 {

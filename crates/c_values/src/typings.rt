@@ -2,11 +2,13 @@
 use c_constants::Constant;
 use c_types::{Expr, TypeId};
 
-/// A type by its id; or an array whose initializer is to give its length, by the type of its elements.
+/// A type by its id; or an array whose initializer is to give its length, by the type of its elements; or a pointer to such an
+/// array.
 #[derive(Clone, Copy, Debug, PartialEq, Eq)]
 pub enum Type {
     Known(TypeId),
     Unsized(TypeId),
+    ToUnsized(TypeId),
 }
 
 /// What a name of a function calls.
