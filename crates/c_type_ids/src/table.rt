@@ -191,6 +191,17 @@ impl TypeTable {
         shown_by(self.types.kind(id))
     }
 
+    /// The parameters of a function; of another type none.
+    pub fn parameters(&self, id: TypeId) -> &[TypeId]
+        requires { IsThere self.now.table id }
+        ensures { (t : CType) (ts : CTypes) → Names self.now id (types.function t ts) → NamesAll self.now result.now ts }
+    {
+        match self.types.kind(id) {
+            TypeKind::Function(_, takes) => takes.as_slice(),
+            _ => &[],
+        }
+    }
+
     /// Two types are the same, qualifiers aside.
     pub fn is_same(&self, left: TypeId, right: TypeId) -> bool
         ensures { (t u : CType) → Names self.now left t → Names self.now right u → result ≡ same t u }

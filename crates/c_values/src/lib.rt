@@ -24,7 +24,7 @@ pub use conversions::{
     Shown, access_of, converted, is_assignable, is_same, is_void, kind_of, value_of,
 };
 pub use operators::{
-    Class, Operand, Operator, ResultType, are_comparable, is_integer, is_pointer, is_scalar, points_to_void,
-    operator_of, result_type,
+    Class, Operand, Operator, ResultType, are_comparable, is_integer, is_pointer, is_scalar,
+    operator_of, points_to_void, result_type,
 };
 pub use typings::{Callee, Form, Type, Typing};
