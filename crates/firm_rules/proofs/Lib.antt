@@ -1,2 +1,7 @@
 mod Made
 mod Rows
+mod Steps
+mod Agreement
+mod Chains
+mod Stuck
+mod RunLaws
