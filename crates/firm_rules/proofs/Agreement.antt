@@ -6,11 +6,11 @@ use Rattle.std.proofs.lemmas.List.Sums.{prefix_len-le-length}
 use Rattle.run_model.specs.declared.outcome.Outcome.TheVariants.{Running}
 use Rattle.run_model.specs.Stores.{World, Store}
 use Rattle.firm_rules.specs.Graphs.{Firm, Program}
-use Rattle.firm_rules.specs.Lookups.{first_of, place, is_later}
+use Rattle.firm_rules.specs.Lookups.{first_of, rank, is_later}
 use Rattle.firm_rules.specs.Rules.{chain}
-use Rattle.firm_rules.specs.Frames.{Frame, first_frame, with_word, entered}
-use Rattle.firm_rules.specs.Runs.{came, Result, gives, stops, Begun, does, enters, begun, wants_value, after_call, Left, ends, goes, left, Runs, acts, stops_at, calls, stops_in, ends_at, goes_on, Again, then_word, given, left_to, in_block, from_block, run}
-use Rattle.firm_rules.proofs.Steps.{behind, found, found_behind, turns_of, BegunFalls, begun_falls, after_call_falls, LeftWell, left_ends, left_forth, left_back, left_well}
+use Rattle.firm_rules.specs.Frames.{Frame, first_frame, with_word, after_edge}
+use Rattle.firm_rules.specs.Runs.{came, Result, gives, stops, Begun, does, enters, begun, wants_value, after_call, Exit, ends, goes, exit, Runs, acted, stopped, called, stopped_in, ended, went, Again, then_word, given, exit_to, in_block, from_block, run}
+use Rattle.firm_rules.proofs.Steps.{behind, found, found_behind, turns_of, BegunFalls, begun_falls, after_call_falls, ExitWell, exit_ends, exit_forth, exit_back, exit_well}
 
 abbrev Inside : Type 0
 Inside = Frame → Store → Result (Option ℕ)
@@ -18,25 +18,25 @@ Inside = Frame → Store → Result (Option ℕ)
 module _ (p : Program) (w : World) where
   -- a run leaves no more turns
   pub falls : {g : Firm} {b : ℕ} {ns : List ℕ} {f : Frame} {s : Store} {r : Result (Option ℕ)} → Runs p w g b ns f s r → turns_of r ≤ s.turns
-  falls {g = g} {b = b} {f = f} {s = s} (acts {n = n} word t e more) = le_trans (falls more) (subst (BegunFalls s.turns) e (begun_falls p w g b f n s))
-  falls {g = g} {b = b} {f = f} {s = s} (stops_at {n = n} outcome t e) = subst (BegunFalls s.turns) e (begun_falls p w g b f n s)
-  falls {g = g} {b = b} {f = f} {s = s} (calls {n = n} callee arguments t called word u e inner after more) =
+  falls {g = g} {b = b} {f = f} {s = s} (acted {n = n} word t e more) = le_trans (falls more) (subst (BegunFalls s.turns) e (begun_falls p w g b f n s))
+  falls {g = g} {b = b} {f = f} {s = s} (stopped {n = n} outcome t e) = subst (BegunFalls s.turns) e (begun_falls p w g b f n s)
+  falls {g = g} {b = b} {f = f} {s = s} (called {n = n} callee arguments t result word u e inner after more) =
       let uses = subst (BegunFalls s.turns) e (begun_falls p w g b f n s) in
-      let leaves = subst (λ x. turns_of x ≤ turns_of called) after (after_call_falls (wants_value g n) s.active called) in
+      let leaves = subst (λ x. turns_of x ≤ turns_of result) after (after_call_falls (wants_value g n) s.active result) in
       omega (arith, uses, leaves, falls inner, falls more)
-  falls {g = g} {b = b} {f = f} {s = s} (stops_in {n = n} callee arguments t called outcome u e inner after) =
+  falls {g = g} {b = b} {f = f} {s = s} (stopped_in {n = n} callee arguments t result outcome u e inner after) =
       let uses = subst (BegunFalls s.turns) e (begun_falls p w g b f n s) in
-      let leaves = subst (λ x. turns_of x ≤ turns_of called) after (after_call_falls (wants_value g n) s.active called) in
+      let leaves = subst (λ x. turns_of x ≤ turns_of result) after (after_call_falls (wants_value g n) s.active result) in
       omega (arith, uses, leaves, falls inner)
-  falls {g = g} {b = b} {f = f} {s = s} (ends_at {r = r} e) = by (subst (LeftWell g b s) e (left_well p w g b f s))
+  falls {g = g} {b = b} {f = f} {s = s} (ended {r = r} e) = by (subst (ExitWell g b s) e (exit_well p w g b f s))
     where
-      by : LeftWell g b s (ends r) → turns_of r ≤ s.turns
-      by (left_ends r same) = omega (arith, same)
-  falls {g = g} {b = b} {f = f} {s = s} (goes_on to at t e more) = le_trans (falls more) (by (subst (LeftWell g b s) e (left_well p w g b f s)))
+      by : ExitWell g b s (ends r) → turns_of r ≤ s.turns
+      by (exit_ends r same) = omega (arith, same)
+  falls {g = g} {b = b} {f = f} {s = s} (went to at t e more) = le_trans (falls more) (by (subst (ExitWell g b s) e (exit_well p w g b f s)))
     where
-      by : LeftWell g b s (goes to at t) → t.turns ≤ s.turns
-      by (left_forth to at t later same) = omega (arith, same)
-      by (left_back to at t later same) = omega (arith, same)
+      by : ExitWell g b s (goes to at t) → t.turns ≤ s.turns
+      by (exit_forth to at t later same) = omega (arith, same)
+      by (exit_back to at t later same) = omega (arith, same)
 
   -- ---- the function, from within a block
 
@@ -60,7 +60,7 @@ module _ (p : Program) (w : World) where
   forth : (turns : ℕ) (g : Firm) (b to : ℕ) (f : Frame) (s : Store) → is_later g b to ≡ true
       → behind p w (again_of turns) g g.order b to f s ≡ from_within turns g to (chain g to) f s
   forth turns g b to f s later =
-      ap (λ (from : Inside). from f s) (found_behind p w (again_of turns) g g.order b to (ltb-true (place g b) (place g to) later))
+      ap (λ (from : Inside). from f s) (found_behind p w (again_of turns) g g.order b to (ltb-true (rank g b) (rank g to) later))
       ∙ ap (λ (from : Inside). from f s) (found p w (again_of turns) g g.order to)
 
   -- ---- what the relation says, the function gives
@@ -85,53 +85,53 @@ module _ (p : Program) (w : World) where
   fewer_called g b n f s turns few e =
       let uses = subst (BegunFalls s.turns) e (begun_falls p w g b f n s) in omega (arith, uses, few)
 
-  fewer_after : (g : Firm) (n : ℕ) (s t : Store) (called : Result (Option ℕ)) (word : ℕ) (u : Store) (turns : ℕ) → turns_of called ≤ t.turns → t.turns < turns
-      → after_call (wants_value g n) s.active called ≡ gives word u → u.turns ≤ turns
-  fewer_after g n s t called word u turns inner few after =
-      let leaves = subst (λ x. turns_of x ≤ turns_of called) after (after_call_falls (wants_value g n) s.active called) in
+  fewer_after : (g : Firm) (n : ℕ) (s t : Store) (result : Result (Option ℕ)) (word : ℕ) (u : Store) (turns : ℕ) → turns_of result ≤ t.turns → t.turns < turns
+      → after_call (wants_value g n) s.active result ≡ gives word u → u.turns ≤ turns
+  fewer_after g n s t result word u turns inner few after =
+      let leaves = subst (λ x. turns_of x ≤ turns_of result) after (after_call_falls (wants_value g n) s.active result) in
       omega (arith, leaves, inner, few)
 
   pub is_run : {g : Firm} {b : ℕ} {ns : List ℕ} {f : Frame} {s : Store} {r : Result (Option ℕ)} → Runs p w g b ns f s r
       → (turns : ℕ) → s.turns ≤ turns → from_within turns g b ns f s ≡ r
-  is_run {g = g} {b = b} {f = f} {s = s} (acts {n = n} {rest = rest} word t e more) turns few =
+  is_run {g = g} {b = b} {f = f} {s = s} (acted {n = n} {rest = rest} word t e more) turns few =
       ap (λ x. after_node turns g b n rest f s (node_gives turns g n s x)) e
       ∙ is_run more turns (fewer g b n f s turns few e)
-  is_run {g = g} {b = b} {f = f} {s = s} (stops_at {n = n} {rest = rest} outcome t e) turns few =
+  is_run {g = g} {b = b} {f = f} {s = s} (stopped {n = n} {rest = rest} outcome t e) turns few =
       ap (λ x. after_node turns g b n rest f s (node_gives turns g n s x)) e
-  is_run {g = g} {b = b} {f = f} {s = s} (calls {n = n} {rest = rest} callee arguments t called word u e inner after more) turns few =
+  is_run {g = g} {b = b} {f = f} {s = s} (called {n = n} {rest = rest} callee arguments t result word u e inner after more) turns few =
       let less = fewer_called g b n f s turns few e in
-      let called_is = again_is turns callee (first_of callee.order) (first_frame arguments) t called less (λ k enough. is_run inner k enough) in
+      let called_is = again_is turns callee (first_of callee.order) (first_frame arguments) t result less (λ k enough. is_run inner k enough) in
       ap (λ x. after_node turns g b n rest f s (node_gives turns g n s x)) e
       ∙ ap (λ x. after_node turns g b n rest f s (after_call (wants_value g n) s.active x)) called_is
       ∙ ap (λ x. after_node turns g b n rest f s x) after
-      ∙ is_run more turns (fewer_after g n s t called word u turns (falls inner) less after)
-  is_run {g = g} {b = b} {f = f} {s = s} (stops_in {n = n} {rest = rest} callee arguments t called outcome u e inner after) turns few =
+      ∙ is_run more turns (fewer_after g n s t result word u turns (falls inner) less after)
+  is_run {g = g} {b = b} {f = f} {s = s} (stopped_in {n = n} {rest = rest} callee arguments t result outcome u e inner after) turns few =
       let less = fewer_called g b n f s turns few e in
-      let called_is = again_is turns callee (first_of callee.order) (first_frame arguments) t called less (λ k enough. is_run inner k enough) in
+      let called_is = again_is turns callee (first_of callee.order) (first_frame arguments) t result less (λ k enough. is_run inner k enough) in
       ap (λ x. after_node turns g b n rest f s (node_gives turns g n s x)) e
       ∙ ap (λ x. after_node turns g b n rest f s (after_call (wants_value g n) s.active x)) called_is
       ∙ ap (λ x. after_node turns g b n rest f s x) after
-  is_run {g = g} {b = b} {f = f} {s = s} (ends_at e) turns few =
-      ap (left_to p w (again_of turns) g (behind p w (again_of turns) g g.order b) b f) e
-  is_run {g = g} {b = b} {f = f} {s = s} {r = r} (goes_on to at t e more) turns few =
-      ap (left_to p w (again_of turns) g (behind p w (again_of turns) g g.order b) b f) e
-      ∙ by (subst (LeftWell g b s) e (left_well p w g b f s)) (λ k enough. is_run more k enough)
+  is_run {g = g} {b = b} {f = f} {s = s} (ended e) turns few =
+      ap (exit_to p w (again_of turns) g (behind p w (again_of turns) g g.order b) b f) e
+  is_run {g = g} {b = b} {f = f} {s = s} {r = r} (went to at t e more) turns few =
+      ap (exit_to p w (again_of turns) g (behind p w (again_of turns) g g.order b) b f) e
+      ∙ by (subst (ExitWell g b s) e (exit_well p w g b f s)) (λ k enough. is_run more k enough)
     where
       next : Frame
-      next = entered w.base g b f to at
+      next = after_edge w.base g b f to at
 
       on : (later : Bool) → Result (Option ℕ)
       on later = elim later [ true ↦ behind p w (again_of turns) g g.order b to next t | false ↦ again_of turns g to next t ]
 
-      by : LeftWell g b s (goes to at t) → ((k : ℕ) → t.turns ≤ k → from_within k g to (chain g to) next t ≡ r) → on (is_later g b to) ≡ r
-      by (left_forth to at t later same) each = ap on later ∙ forth turns g b to next t later ∙ each turns (omega (arith, same, few))
-      by (left_back to at t later same) each = ap on later ∙ again_is turns g to next t r (omega (arith, same, few)) each
+      by : ExitWell g b s (goes to at t) → ((k : ℕ) → t.turns ≤ k → from_within k g to (chain g to) next t ≡ r) → on (is_later g b to) ≡ r
+      by (exit_forth to at t later same) each = ap on later ∙ forth turns g b to next t later ∙ each turns (omega (arith, same, few))
+      by (exit_back to at t later same) each = ap on later ∙ again_is turns g to next t r (omega (arith, same, few)) each
 
   -- ---- what the function gives, the relation says
 
   -- the room of a block: how many blocks may still be found behind it
   abbrev Total : ℕ → ℕ → Type 0
-  Total turns room = (g : Firm) (b : ℕ) (ns : List ℕ) (f : Frame) (s : Store) → s.turns ≤ turns → length g.order ≤ place g b + room
+  Total turns room = (g : Firm) (b : ℕ) (ns : List ℕ) (f : Frame) (s : Store) → s.turns ≤ turns → length g.order ≤ rank g b + room
       → Runs p w g b ns f s (from_within turns g b ns f s)
 
   -- from a block on, after a turn was used
@@ -140,27 +140,27 @@ module _ (p : Program) (w : World) where
 
   -- on to a later block
   abbrev TotalForth : ℕ → ℕ → Type 0
-  TotalForth turns room = (g : Firm) (b to : ℕ) (f : Frame) (s : Store) → is_later g b to ≡ true → s.turns ≤ turns → length g.order ≤ place g b + room
+  TotalForth turns room = (g : Firm) (b to : ℕ) (f : Frame) (s : Store) → is_later g b to ≡ true → s.turns ≤ turns → length g.order ≤ rank g b + room
       → Runs p w g to (chain g to) f s (from_within turns g to (chain g to) f s)
 
   total_in : (turns room : ℕ) → TotalAgain turns → TotalForth turns room → Total turns room
-  total_in turns room again on g b [] f s few near = by (left p w g b f s) refl (left_well p w g b f s)
+  total_in turns room again on g b [] f s few near = by (exit p w g b f s) refl (exit_well p w g b f s)
     where
       next : ℕ → ℕ → Frame
-      next to at = entered w.base g b f to at
+      next to at = after_edge w.base g b f to at
 
       after : ℕ → ℕ → Store → Bool → Result (Option ℕ)
       after to at t later = elim later [ true ↦ behind p w (again_of turns) g g.order b to (next to at) t | false ↦ again_of turns g to (next to at) t ]
 
-      by : (x : Left) → left p w g b f s ≡ x → LeftWell g b s x
-          → Runs p w g b [] f s (left_to p w (again_of turns) g (behind p w (again_of turns) g g.order b) b f x)
-      by (ends r) e well = ends_at e
-      by (goes to at t) e (left_forth _ _ _ later same) =
-          goes_on to at t e (subst (Runs p w g to (chain g to) (next to at) t)
+      by : (x : Exit) → exit p w g b f s ≡ x → ExitWell g b s x
+          → Runs p w g b [] f s (exit_to p w (again_of turns) g (behind p w (again_of turns) g g.order b) b f x)
+      by (ends r) e well = ended e
+      by (goes to at t) e (exit_forth _ _ _ later same) =
+          went to at t e (subst (Runs p w g to (chain g to) (next to at) t)
           (sym (ap (after to at t) later ∙ forth turns g b to (next to at) t later))
           (on g b to (next to at) t later (omega (arith, same, few)) near))
-      by (goes to at t) e (left_back _ _ _ later same) =
-          goes_on to at t e (subst (Runs p w g to (chain g to) (next to at) t)
+      by (goes to at t) e (exit_back _ _ _ later same) =
+          went to at t e (subst (Runs p w g to (chain g to) (next to at) t)
           (sym (ap (after to at t) later))
           (again g to (next to at) t (omega (arith, same, few))))
   total_in turns room again on g b (n ∷ rest) f s few near =
@@ -171,23 +171,23 @@ module _ (p : Program) (w : World) where
       More = (word : ℕ) (t : Store) → t.turns ≤ turns → Runs p w g b rest (with_word f n word) t (from_within turns g b rest (with_word f n word) t)
 
       by_called : (callee : Firm) (arguments : List ℕ) (t : Store) → begun p w g b f n s ≡ enters callee arguments t → t.turns < turns → More
-          → (called : Result (Option ℕ)) → Runs p w callee (first_of callee.order) (chain callee (first_of callee.order)) (first_frame arguments) t called
-          → (x : Result ℕ) → after_call (wants_value g n) s.active called ≡ x → Runs p w g b (n ∷ rest) f s (after_node turns g b n rest f s x)
-      by_called callee arguments t e less more called inner (gives word u) is =
-          calls callee arguments t called word u e inner is (more word u (fewer_after g n s t called word u turns (falls inner) less is))
-      by_called callee arguments t e less more called inner (stops outcome u) is = stops_in callee arguments t called outcome u e inner is
+          → (result : Result (Option ℕ)) → Runs p w callee (first_of callee.order) (chain callee (first_of callee.order)) (first_frame arguments) t result
+          → (x : Result ℕ) → after_call (wants_value g n) s.active result ≡ x → Runs p w g b (n ∷ rest) f s (after_node turns g b n rest f s x)
+      by_called callee arguments t e less more result inner (gives word u) is =
+          called callee arguments t result word u e inner is (more word u (fewer_after g n s t result word u turns (falls inner) less is))
+      by_called callee arguments t e less more result inner (stops outcome u) is = stopped_in callee arguments t result outcome u e inner is
 
       by : (x : Begun) → begun p w g b f n s ≡ x → BegunFalls s.turns x → More
           → Runs p w g b (n ∷ rest) f s (after_node turns g b n rest f s (node_gives turns g n s x))
-      by (does (gives word t)) e less more = acts word t e (more word t (le_trans less few))
-      by (does (stops outcome t)) e less more = stops_at outcome t e
+      by (does (gives word t)) e less more = acted word t e (more word t (le_trans less few))
+      by (does (stops outcome t)) e less more = stopped outcome t e
       by (enters callee arguments t) e uses more =
           by_called callee arguments t e (omega (arith, uses, few)) more
           (again_of turns callee (first_of callee.order) (first_frame arguments) t)
           (again callee (first_of callee.order) (first_frame arguments) t (omega (arith, uses, few)))
           (after_call (wants_value g n) s.active (again_of turns callee (first_of callee.order) (first_frame arguments) t)) refl
 
-  place_within : (g : Firm) (b : ℕ) → place g b ≤ length g.order
+  place_within : (g : Firm) (b : ℕ) → rank g b ≤ length g.order
   place_within g b = prefix_len-le-length (λ c. not (c == b)) g.order
 
   -- by how many blocks may stand behind a block
@@ -196,12 +196,12 @@ module _ (p : Program) (w : World) where
     where
       on : TotalForth turns zero
       on g b to f s later few near =
-          let less = ltb-true (place g b) (place g to) later in absurd (omega (arith, less, place_within g to, near))
+          let less = ltb-true (rank g b) (rank g to) later in absurd (omega (arith, less, place_within g to, near))
   total_by turns (suc room) again = total_in turns (suc room) again (on (total_by turns room again))
     where
       on : Total turns room → TotalForth turns (suc room)
       on total g b to f s later few near =
-          let less = ltb-true (place g b) (place g to) later in total g to (chain g to) f s few (omega (arith, less, near))
+          let less = ltb-true (rank g b) (rank g to) later in total g to (chain g to) f s few (omega (arith, less, near))
 
   total : (turns : ℕ) → (room : ℕ) → Total turns room
   total zero room = total_by zero room (λ g b f s few. absurd (omega (arith, few)))

@@ -12,10 +12,10 @@ use Rattle.firm_rules.specs.declared.node.NodeOp.TheVariants as op
 use Rattle.firm_rules.specs.declared.node.FirmEnd.{FirmEnd}
 use Rattle.firm_rules.specs.declared.node.FirmEnd.TheVariants.{Jump, Branch, Return}
 use Rattle.firm_rules.specs.Graphs.{FirmNode, Firm, Program}
-use Rattle.firm_rules.specs.Lookups.{place, is_later, end_of, node_at}
+use Rattle.firm_rules.specs.Lookups.{is_later, end_of, node_at}
 use Rattle.firm_rules.specs.Rules.{chain}
 use Rattle.firm_rules.specs.Frames.{Frame, word_at}
-use Rattle.firm_rules.specs.Runs.{came, stuck, no_graph, malformed, Result, gives, stops, Begun, does, enters, load, store, call, call_turn, begun_by, begun_in, begun, after_call, Left, ends, goes, back, jump, branch, left_by, left, Again, in_block, from_block}
+use Rattle.firm_rules.specs.Runs.{came, stuck, no_graph, malformed, Result, gives, stops, Begun, does, enters, accessed, call, call_turn, begun_by, begun_in, begun, after_call, Exit, ends, goes, back, jump, branch, exit_by, exit, Again, in_block, from_block}
 
 -- ---- the blocks of the order
 
@@ -77,13 +77,9 @@ abbrev pub BegunFalls : ℕ → Begun → Type 0
 BegunFalls turns (does r) = turns_of r ≤ turns
 BegunFalls turns (enters callee arguments t) = suc t.turns ≡ turns
 
-load_falls : (s : Store) (word : Option ℕ) → turns_of (load s word) ≤ s.turns
-load_falls s (Some word) = le_refl s.turns
-load_falls s None = le_refl s.turns
-
-store_falls : (s : Store) (bytes : Option (List ℕ)) → turns_of (store s bytes) ≤ s.turns
-store_falls s (Some bytes) = le_refl s.turns
-store_falls s None = le_refl s.turns
+accessed_falls : {A : Type 0} → (next : A → Result ℕ) (s : Store) (a : Option A) → ((x : A) → turns_of (next x) ≤ s.turns) → turns_of (accessed next s a) ≤ s.turns
+accessed_falls next s (Some a) each = each a
+accessed_falls next s None each = le_refl s.turns
 
 call_turn_falls : (turns : ℕ) (callee : Firm) (arguments : List ℕ) (s : Store) → s.turns ≡ turns → BegunFalls s.turns (call_turn turns callee arguments s)
 call_turn_falls zero callee arguments s e = le_refl s.turns
@@ -99,8 +95,8 @@ call_falls w (Some callee) arguments s = by (length arguments == callee.params) 
     by false u = le_refl s.turns
 
 begun_by_falls : (p : Program) (w : World) (o : NodeOp) (operands : List ℕ) (s : Store) → BegunFalls s.turns (begun_by p w o operands s)
-begun_by_falls p w (op.Load kind) (address ∷ []) s = load_falls s (loaded w.base s.bytes kind address)
-begun_by_falls p w (op.Store kind) (address ∷ value ∷ []) s = store_falls s (stored w.base s.bytes kind address value)
+begun_by_falls p w (op.Load kind) (address ∷ []) s = accessed_falls _ s (loaded w.base s.bytes kind address) (λ word. le_refl s.turns)
+begun_by_falls p w (op.Store kind) (address ∷ value ∷ []) s = accessed_falls _ s (stored w.base s.bytes kind address value) (λ bytes. le_refl s.turns)
 begun_by_falls p w (op.Call c) arguments s = call_falls w (slice_get p.graphs c) arguments s
 begun_by_falls p w op.Get [] s = le_refl s.turns
 begun_by_falls p w op.Put (value ∷ []) s = le_refl s.turns
@@ -124,32 +120,32 @@ after_call_falls false active (gives None s) = le_refl s.turns
 after_call_falls wants active (stops outcome s) = le_refl s.turns
 
 -- where a block is left for another: for a later one as it is, and back with a turn less
-pub data LeftWell (g : Firm) (b : ℕ) (s : Store) : Left → Type 0 where
-  left_ends : (r : Result (Option ℕ)) → turns_of r ≡ s.turns → LeftWell g b s (ends r)
-  left_forth : (to place : ℕ) (t : Store) → is_later g b to ≡ true → t.turns ≡ s.turns → LeftWell g b s (goes to place t)
-  left_back : (to place : ℕ) (t : Store) → is_later g b to ≡ false → suc t.turns ≡ s.turns → LeftWell g b s (goes to place t)
+pub data ExitWell (g : Firm) (b : ℕ) (s : Store) : Exit → Type 0 where
+  exit_ends : (r : Result (Option ℕ)) → turns_of r ≡ s.turns → ExitWell g b s (ends r)
+  exit_forth : (to place : ℕ) (t : Store) → is_later g b to ≡ true → t.turns ≡ s.turns → ExitWell g b s (goes to place t)
+  exit_back : (to place : ℕ) (t : Store) → is_later g b to ≡ false → suc t.turns ≡ s.turns → ExitWell g b s (goes to place t)
 
-back_well : (g : Firm) (b turns to place : ℕ) (s : Store) → is_later g b to ≡ false → s.turns ≡ turns → LeftWell g b s (back turns to place s)
-back_well g b zero to place s not_later e = left_ends _ refl
-back_well g b (suc turns) to place s not_later e = left_back to place _ not_later (sym e)
+back_well : (g : Firm) (b turns to place : ℕ) (s : Store) → is_later g b to ≡ false → s.turns ≡ turns → ExitWell g b s (back turns to place s)
+back_well g b zero to place s not_later e = exit_ends _ refl
+back_well g b (suc turns) to place s not_later e = exit_back to place _ not_later (sym e)
 
-jump_well : (g : Firm) (b to place : ℕ) (s : Store) → LeftWell g b s (jump g b to place s)
+jump_well : (g : Firm) (b to place : ℕ) (s : Store) → ExitWell g b s (jump g b to place s)
 jump_well g b to place s = by (is_later g b to) refl
   where
-    by : (t : Bool) → is_later g b to ≡ t → LeftWell g b s (if t then goes to place s else back s.turns to place s)
-    by true e = left_forth to place s e refl
+    by : (t : Bool) → is_later g b to ≡ t → ExitWell g b s (if t then goes to place s else back s.turns to place s)
+    by true e = exit_forth to place s e refl
     by false e = back_well g b s.turns to place s e refl
 
-branch_well : (t : Bool) (g : Firm) (b first second : ℕ) (s : Store) → LeftWell g b s (branch t g b first second s)
+branch_well : (t : Bool) (g : Firm) (b first second : ℕ) (s : Store) → ExitWell g b s (branch t g b first second s)
 branch_well true g b first second s = jump_well g b first _ s
 branch_well false g b first second s = jump_well g b second _ s
 
-left_by_well : (g : Firm) (b : ℕ) (word : ℕ → ℕ) (end : Option FirmEnd) (s : Store) → LeftWell g b s (left_by g b word end s)
-left_by_well g b word (Some (Jump to)) s = jump_well g b to.number _ s
-left_by_well g b word (Some (Branch n first second)) s = branch_well _ g b first.number second.number s
-left_by_well g b word (Some (Return m (Some n))) s = left_ends _ refl
-left_by_well g b word (Some (Return m None)) s = left_ends _ refl
-left_by_well g b word None s = left_ends _ refl
+exit_by_well : (g : Firm) (b : ℕ) (word : ℕ → ℕ) (end : Option FirmEnd) (s : Store) → ExitWell g b s (exit_by g b word end s)
+exit_by_well g b word (Some (Jump to)) s = jump_well g b to.number _ s
+exit_by_well g b word (Some (Branch n first second)) s = branch_well _ g b first.number second.number s
+exit_by_well g b word (Some (Return m (Some n))) s = exit_ends _ refl
+exit_by_well g b word (Some (Return m None)) s = exit_ends _ refl
+exit_by_well g b word None s = exit_ends _ refl
 
-pub left_well : (p : Program) (w : World) (g : Firm) (b : ℕ) (f : Frame) (s : Store) → LeftWell g b s (left p w g b f s)
-left_well p w g b f s = left_by_well g b (word_at w.base g b f) (end_of g b) s
+pub exit_well : (p : Program) (w : World) (g : Firm) (b : ℕ) (f : Frame) (s : Store) → ExitWell g b s (exit p w g b f s)
+exit_well p w g b f s = exit_by_well g b (word_at w.base g b f) (end_of g b) s

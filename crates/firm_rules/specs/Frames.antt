@@ -1,5 +1,5 @@
 -- What one call of a graph has at a moment, and the words of its nodes.
-use Rattle.std.specs.Prelude.{ℕ, zero, suc, ◌==◌, Bool, true, false, ◌&&◌, List, [], ◌∷◌, length, Option, Some, None, slice_get, unwrap_or}
+use Rattle.std.specs.Prelude.{ℕ, zero, suc, ◌==◌, true, false, ◌&&◌, List, [], ◌∷◌, length, Option, Some, None, slice_get, unwrap_or}
 use Rattle.cp_base.specs.Operations.{applied}
 use Rattle.cp_base.specs.Words.{sum}
 use Rattle.firm_rules.specs.declared.node.NodeOp.{NodeOp}
@@ -17,13 +17,9 @@ pub record Frame : Type 0 where
 abbrev pub first_frame : List ℕ → Frame
 first_frame arguments = record { arguments = arguments; words = λ n. 0 }
 
-abbrev pub changed : Bool → ℕ → (ℕ → ℕ) → ℕ → ℕ
-changed true word words n = word
-changed false word words n = words n
-
 -- the node has this word
 abbrev pub with_word : Frame → ℕ → ℕ → Frame
-with_word f n word = record f { words = λ m. changed (m == n) word f.words m }
+with_word f n word = record f { words = λ m. elim (m == n) [ true ↦ word | false ↦ f.words m ] }
 
 -- The word of a node of the present block: a pure node has that of its operation, by the words of its operands, and `ProjR` that
 -- of its tuple. A Phi, and a node that takes memory, has the word that it was given; so has any other.
@@ -38,12 +34,8 @@ word_by base f word (Apply op) (a ∷ []) n = applied op (word a) 0
 word_by base f word ProjR (t ∷ rest) n = word t
 word_by base f word op operands n = f.words n
 
-abbrev pub word_here : Bool → ℕ → Frame → (ℕ → ℕ) → FirmNode → ℕ → ℕ
-word_here true base f word node n = word_by base f word node.op node.operands n
-word_here false base f word node n = f.words n
-
 abbrev pub word_in : ℕ → ℕ → Frame → (ℕ → ℕ) → Option FirmNode → ℕ → ℕ
-word_in base b f word (Some node) n = word_here (node.block == b) base f word node n
+word_in base b f word (Some node) n = elim (node.block == b) [ true ↦ word_by base f word node.op node.operands n | false ↦ f.words n ]
 word_in base b f word None n = f.words n
 
 -- with so many steps from a node to an operand
@@ -62,16 +54,13 @@ abbrev pub word_of : (ℕ → ℕ) → Option ℕ → ℕ
 word_of word (Some n) = word n
 word_of word None = 0
 
-abbrev pub word_or : Bool → (ℕ → ℕ) → Option ℕ → ℕ → ℕ
-word_or true word operand n = word_of word operand
-word_or false word operand n = word n
-
 -- the word that a node has where the block is entered by the edge at a place: a Phi of the block has that of its operand for the
 -- edge, and any other node the one that it had
 abbrev pub word_entered : ℕ → ℕ → (ℕ → ℕ) → Option FirmNode → ℕ → ℕ
-word_entered to place word (Some node) n = word_or (is_phi node.op && (node.block == to)) word (slice_get node.operands place) n
+word_entered to place word (Some node) n =
+    elim (is_phi node.op && (node.block == to)) [ true ↦ word_of word (slice_get node.operands place) | false ↦ word n ]
 word_entered to place word None n = word n
 
--- after the block `to` is entered at a place from the block b: all its Phis change at once
-abbrev pub entered : ℕ → Firm → ℕ → Frame → ℕ → ℕ → Frame
-entered base g b f to place = record f { words = λ n. word_entered to place (word_at base g b f) (node_at g n) n }
+-- after the block `to` is entered from the block b by the edge at a place: all its Phis change at once
+abbrev pub after_edge : ℕ → Firm → ℕ → Frame → ℕ → ℕ → Frame
+after_edge base g b f to place = record f { words = λ n. word_entered to place (word_at base g b f) (node_at g n) n }

@@ -3,3 +3,4 @@ pub mod Lookups
 pub mod Rules
 pub mod Frames
 pub mod Runs
+pub mod Visits

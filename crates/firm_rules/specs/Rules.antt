@@ -7,24 +7,15 @@ use Rattle.firm_rules.specs.declared.node.NodeId.{NodeId}
 use Rattle.firm_rules.specs.declared.node.Mode.{Mode}
 use Rattle.firm_rules.specs.declared.node.Mode.TheVariants.{Word, Memory, Tuple}
 use Rattle.firm_rules.specs.declared.node.NodeOp.{NodeOp}
-use Rattle.firm_rules.specs.declared.node.NodeOp.TheVariants.{Start, Load, Store, Call, Get, Put, ProjM, Phi}
+use Rattle.firm_rules.specs.declared.node.NodeOp.TheVariants.{Start, Param, Call, ProjM, Phi}
 use Rattle.firm_rules.specs.declared.node.FirmEnd.{FirmEnd}
 use Rattle.firm_rules.specs.declared.node.FirmEnd.TheVariants.{Jump, Branch, Return}
-use Rattle.firm_rules.specs.Graphs.{FirmNode, Firm, Program, Operands, exactly, memory_and_words, all_of, operands_of}
-use Rattle.firm_rules.specs.Lookups.{node_at, mode_at, first_of, place, IsBlock, preds_of, end_of, targets, shape}
+use Rattle.firm_rules.specs.Graphs.{FirmNode, Firm, Program, Operands, exactly, memory_and_words, all_of, operands_of, acts}
+use Rattle.firm_rules.specs.Lookups.{node_at, mode_at, first_of, rank, IsBlock, preds_of, end_of, targets, shape}
 
 abbrev pub is_phi : NodeOp → Bool
 is_phi (Phi mode) = true
 is_phi op = false
-
--- the operation reads or changes the memory that it takes
-abbrev pub acts : NodeOp → Bool
-acts (Load kind) = true
-acts (Store kind) = true
-acts (Call f) = true
-acts Get = true
-acts Put = true
-acts op = false
 
 -- ---- 1: the operands of each node but their number for a Phi, and those of each end, are as the table says; and each block
 -- has an end
@@ -66,7 +57,8 @@ pub data Leads (g : Firm) : ℕ → ℕ → Type 0 where
   onward : {n last : ℕ} → (next : ℕ) → IsOperand g n next → Leads g next last → Leads g n last
 
 -- ---- 4: in each block the nodes that take memory form one chain, in which each but the first takes what the one before gives;
--- the first, and where there is none the block's end and its successors, take the memory that comes along the walk
+-- the first, and where there is none the block's end and its successors, take the memory that comes along the walk. This asks nothing
+-- of a block from which no path leads to what takes memory.
 
 -- the node that gives a memory; that of a tuple is given by the tuple
 abbrev pub giver_by : NodeOp → List ℕ → ℕ → ℕ
@@ -122,31 +114,31 @@ last_of n (m ∷ ms) = last_of m ms
 
 -- The node that gives the memory which the last block of a walk sees: `Start`, or the block's Phi, or what gives the memory that
 -- the block before it leaves.
-unfoldable pub seen : Firm → Walk → ℕ
-seen g [] = unwrap_or (first_node g (λ node. is_start node.op)) 0
-seen g (e ∷ w) = unwrap_or (memory_phi g e.into) (last_of (seen g w) (chain g (end (shape g) w)))
+unfoldable pub memory_into : Firm → Walk → ℕ
+memory_into g [] = unwrap_or (first_node g (λ node. is_start node.op)) 0
+memory_into g (e ∷ w) = unwrap_or (memory_phi g e.into) (last_of (memory_into g w) (chain g (end (shape g) w)))
 
 -- the node that gives the memory which it leaves
-abbrev pub left : Firm → Walk → ℕ
-left g w = last_of (seen g w) (chain g (end (shape g) w))
+abbrev pub memory_after : Firm → Walk → ℕ
+memory_after g w = last_of (memory_into g w) (chain g (end (shape g) w))
 
 abbrev pub ComesTo : Firm → Walk → ℕ → Type 0
 ComesTo g w b = IsWalk (shape g) w × (end (shape g) w ≡ b)
 
 pub record MemoryFits (g : Firm) (b : ℕ) : Type 0 where
   pub one_chain : (n : ℕ) → acts_in b (node_at g n) ≡ true → (index : ℕ) × (slice_get (chain g b) index ≡ Some n)
-  pub first : (n : ℕ) (rest : List ℕ) (node : FirmNode) (m : ℕ) (others : List ℕ) (w : Walk) → chain g b ≡ n ∷ rest → node_at g n ≡ Some node
-      → node.operands ≡ m ∷ others → ComesTo g w b → giver g m ≡ seen g w
+  pub first_takes : (n : ℕ) (rest : List ℕ) (node : FirmNode) (m : ℕ) (others : List ℕ) (w : Walk) → chain g b ≡ n ∷ rest
+      → node_at g n ≡ Some node → node.operands ≡ m ∷ others → ComesTo g w b → giver g m ≡ memory_into g w
   pub one_phi : (n : ℕ) (node : FirmNode) → node_at g n ≡ Some node → node.block ≡ b → is_memory_phi node.op ≡ true → memory_phi g b ≡ Some n
-  pub phi : (n : ℕ) (node : FirmNode) (e : Edge) (m : ℕ) (w : Walk) → memory_phi g b ≡ Some n → node_at g n ≡ Some node
-      → slice_get node.operands e.place ≡ Some m → ComesTo g (e ∷ w) b → giver g m ≡ left g w
-  pub return : (m : NodeId) (value : Option NodeId) (w : Walk) → end_of g b ≡ Some (Return m value) → ComesTo g w b → giver g m.number ≡ left g w
+  pub phi_takes : (n : ℕ) (node : FirmNode) (e : Edge) (m : ℕ) (w : Walk) → memory_phi g b ≡ Some n → node_at g n ≡ Some node
+      → slice_get node.operands e.place ≡ Some m → ComesTo g (e ∷ w) b → giver g m ≡ memory_after g w
+  pub return_takes : (m : NodeId) (value : Option NodeId) (w : Walk) → end_of g b ≡ Some (Return m value) → ComesTo g w b
+      → giver g m.number ≡ memory_after g w
 
 -- ---- 5: the first block has no predecessor and no Phi, and alone holds `Start`; each other block has a predecessor earlier in
 -- the order
 
 pub record FirstFits (g : Firm) : Type 0 where
-  pub some : 0 < length g.order
   pub no_preds : preds_of g (first_of g.order) ≡ []
   pub no_phi : (n : ℕ) (node : FirmNode) → node_at g n ≡ Some node → node.block ≡ first_of g.order → is_phi node.op ≡ false
   pub start : ℕ
@@ -157,13 +149,13 @@ abbrev pub IsEdge : Firm → ℕ → ℕ → Type 0
 IsEdge g from to = (index : ℕ) × (slice_get (preds_of g to) index ≡ Some from)
 
 abbrev pub IsEnteredEarlier : Firm → ℕ → Type 0
-IsEnteredEarlier g b = (pred : ℕ) × IsEdge g pred b × (place g pred < place g b)
+IsEnteredEarlier g b = (pred : ℕ) × IsEdge g pred b × (rank g pred < rank g b)
 
 -- ---- 6: the blocks from the target of an edge back to its source are entered from outside by the target alone
 
-abbrev pub IsLoop : Firm → ℕ → Type 0
-IsLoop g last = (head from to : ℕ) → IsEdge g last head → place g head ≤ place g last
-    → IsEdge g from to → (place g from < place g head) ⊎ (place g last < place g from) → place g head < place g to → place g to ≤ place g last → ⊥
+abbrev pub IsEnteredAtHead : Firm → ℕ → Type 0
+IsEnteredAtHead g last = (head from to : ℕ) → IsEdge g last head → rank g head ≤ rank g last → IsEdge g from to
+    → (rank g from < rank g head) ⊎ (rank g last < rank g from) → rank g head < rank g to → rank g to ≤ rank g last → ⊥
 
 -- ---- 7: each operand is defined on every walk to its use; that of a Phi to the end of the predecessor
 
@@ -191,23 +183,40 @@ EndDefined g b = (index operand : ℕ) → slice_get (uses (end_of g b)) index �
 
 pub record EdgesFit (g : Firm) (b : ℕ) : Type 0 where
   pub alike : (to : ℕ) → IsBlock g to → count_by (λ c. c == b) (preds_of g to) ≡ count_by (λ c. c == to) (targets (end_of g b))
-  pub preds : (index from : ℕ) → slice_get (preds_of g b) index ≡ Some from → IsBlock g from
-  pub targets : (index to : ℕ) → slice_get (targets (end_of g b)) index ≡ Some to → IsBlock g to
+  pub from_blocks : (index from : ℕ) → slice_get (preds_of g b) index ≡ Some from → IsBlock g from
+  pub to_blocks : (index to : ℕ) → slice_get (targets (end_of g b)) index ≡ Some to → IsBlock g to
 
 -- ---- all of them
 
+-- at a node: rules 1, 2, 3 and 7
+pub record NodeObeys (g : Firm) (n : ℕ) (node : FirmNode) : Type 0 where
+  pub operands_fit : OperandsFit g (operands_of node.op) node.operands
+  pub phi_is_full : PhiIsFull g node
+  pub no_cycle : Leads g n n → ⊥
+  pub operands_defined : OperandsDefined g node
+
+-- at a block: rules 1, 4, 5, 6, 7 and 8
+pub record BlockObeys (g : Firm) (b : ℕ) : Type 0 where
+  pub end_fits : EndFits g (end_of g b)
+  pub memory_fits : MemoryFits g b
+  pub entered_earlier : b ≢ first_of g.order → IsEnteredEarlier g b
+  pub entered_at_head : IsEnteredAtHead g b
+  pub end_defined : EndDefined g b
+  pub edges_fit : EdgesFit g b
+
 pub record Obeys (g : Firm) : Type 0 where
-  pub operands : (n : ℕ) (node : FirmNode) → node_at g n ≡ Some node → OperandsFit g (operands_of node.op) node.operands
-  pub ends : (b : ℕ) → IsBlock g b → EndFits g (end_of g b)
-  pub phis : (n : ℕ) (node : FirmNode) → node_at g n ≡ Some node → PhiIsFull g node
-  pub no_cycle : (n : ℕ) → Leads g n n → ⊥
-  pub memory : (b : ℕ) → IsBlock g b → MemoryFits g b
+  pub some_block : 0 < length g.order
+  pub nodes : (n : ℕ) (node : FirmNode) → node_at g n ≡ Some node → NodeObeys g n node
   pub first : FirstFits g
-  pub entered : (b : ℕ) → IsBlock g b → b ≢ first_of g.order → IsEnteredEarlier g b
-  pub loops : (b : ℕ) → IsBlock g b → IsLoop g b
-  pub defined : (n : ℕ) (node : FirmNode) → node_at g n ≡ Some node → OperandsDefined g node
-  pub ends_defined : (b : ℕ) → IsBlock g b → EndDefined g b
-  pub edges : (b : ℕ) → IsBlock g b → EdgesFit g b
+  pub blocks : (b : ℕ) → IsBlock g b → BlockObeys g b
+
+-- What no rule asks, but holds of a graph that was made by adding blocks and nodes: each block of the order is one, once; a node that is
+-- there stands in one of them and is its own; a parameter has an argument; and what is not in the order has no edges.
+pub record IsWhole (g : Firm) : Type 0 where
+  pub in_range : (index b : ℕ) → slice_get g.order index ≡ Some b → (b < length g.blocks) × (rank g b ≡ index)
+  pub stands : (n : ℕ) (node : FirmNode) → node_at g n ≡ Some node → IsBlock g node.block × (node.current ≡ n)
+  pub argument : (n i : ℕ) (node : FirmNode) → node_at g n ≡ Some node → node.op ≡ Param i → i < g.params
+  pub no_edges : (b : ℕ) → (IsBlock g b → ⊥) → (preds_of g b ≡ []) × (end_of g b ≡ None)
 
 -- ---- of programs, and of Phis
 
@@ -220,7 +229,7 @@ pub record IsClosed (p : Program) : Type 0 where
   pub calls : (index : ℕ) (g : Firm) (n : ℕ) (node : FirmNode) → slice_get p.graphs index ≡ Some g → node_at g n ≡ Some node → CallFits p node
   pub few : (index : ℕ) (g : Firm) → slice_get p.graphs index ≡ Some g → g.params ≤ 8
 
--- The operands of a Phi are itself and at most one other value. Braun, Buchwald, Hack, Leißa, Mallon and Zwinkau, Simple and
+-- The operands of a Phi are itself and at most one other value; so it may have none, or itself alone. Braun, Buchwald, Hack, Leißa, Mallon and Zwinkau, Simple and
 -- Efficient Construction of Static Single Assignment Form (2013), 2.2.
 abbrev pub IsTrivial : Firm → ℕ → Type 0
 IsTrivial g n = (node : FirmNode) × (node_at g n ≡ Some node) × (is_phi node.op ≡ true)

@@ -1,6 +1,6 @@
--- The run of a program of graphs, as a relation. Braun, Buchwald and Zwinkau, Firm: A Graph-Based Intermediate Representation (2011);
+-- The run of a program of graphs, as a relation and as a function. Braun, Buchwald and Zwinkau, Firm: A Graph-Based Intermediate Representation (2011);
 -- a run over a number of turns, and at a depth, is as that of C in this project.
-use Rattle.std.specs.Prelude.{◌≡◌, ℕ, zero, suc, ◌+◌, ◌%◌, Bool, true, false, ◌==◌, nat_lt, not, if◌then◌else◌, List, [], ◌∷◌, length, map, drop, codes, find, is_some, Option, Some, None, slice_get}
+use Rattle.std.specs.Prelude.{◌≡◌, ◌≢◌, ℕ, zero, suc, ◌+◌, ◌%◌, Bool, true, false, ◌==◌, nat_lt, not, if◌then◌else◌, List, [], ◌∷◌, length, map, drop, codes, find, is_some, Option, Some, None, slice_get}
 use Rattle.std.specs.Str.{bytes_eq}
 use Rattle.std.specs.List.{position_or_len}
 use Rattle.cp_base.specs.declared.layout.Layout.{Layout}
@@ -15,7 +15,7 @@ use Rattle.firm_rules.specs.declared.node.FirmEnd.TheVariants.{Jump, Branch, Ret
 use Rattle.firm_rules.specs.Graphs.{FirmNode, Firm, Program}
 use Rattle.firm_rules.specs.Lookups.{node_at, first_of, is_later, preds_of, end_of}
 use Rattle.firm_rules.specs.Rules.{first_node, chain}
-use Rattle.firm_rules.specs.Frames.{Frame, first_frame, with_word, word_at, entered}
+use Rattle.firm_rules.specs.Frames.{Frame, first_frame, with_word, word_at, after_edge}
 
 -- why a run is stuck
 pub data Cause : Type 0 where
@@ -29,7 +29,7 @@ pub data Cause : Type 0 where
   no_graph : Cause
   -- a call with a `ProjR` got no value
   no_value : Cause
-  -- a node that acts has not its operands, or a block has no end
+  -- only in a graph that breaks a rule: a node that acts has not its operands, or a block has no end
   malformed : Cause
 
 -- how a run comes out: as one of a C unit may, or it is stuck
@@ -49,15 +49,10 @@ pub data Begun : Type 0 where
   does : Result ℕ → Begun
   enters : Firm → List ℕ → Store → Begun
 
--- what a load gives, by the word that is loaded
-abbrev pub load : Store → Option ℕ → Result ℕ
-load s (Some word) = gives word s
-load s None = stops (stuck bad_access) s
-
--- and a store, which has no word, by the data that is stored
-abbrev pub store : Store → Option (List ℕ) → Result ℕ
-store s (Some bytes) = gives 0 (with_bytes s bytes)
-store s None = stops (stuck bad_access) s
+-- what comes of an access, by what it reads or leaves, if it can be made
+abbrev pub accessed : {A : Type 0} → (A → Result ℕ) → Store → Option A → Result ℕ
+accessed then_gives s (Some a) = then_gives a
+accessed then_gives s None = stops (stuck bad_access) s
 
 -- a call tests the depth, then uses a turn
 abbrev pub call_turn : ℕ → Firm → List ℕ → Store → Begun
@@ -73,8 +68,8 @@ call w None arguments s = does (stops (stuck no_graph) s)
 
 -- by the words of the operands behind the memory; `putchar` gives the byte
 abbrev pub begun_by : Program → World → NodeOp → List ℕ → Store → Begun
-begun_by p w (op.Load kind) (address ∷ []) s = does (load s (loaded w.base s.bytes kind address))
-begun_by p w (op.Store kind) (address ∷ value ∷ []) s = does (store s (stored w.base s.bytes kind address value))
+begun_by p w (op.Load kind) (address ∷ []) s = does (accessed (λ word. gives word s) s (loaded w.base s.bytes kind address))
+begun_by p w (op.Store kind) (address ∷ value ∷ []) s = does (accessed (λ bytes. gives 0 (with_bytes s bytes)) s (stored w.base s.bytes kind address value))
 begun_by p w (op.Call c) arguments s = call w (slice_get p.graphs c) arguments s
 begun_by p w op.Get [] s = does (gives (byte_read (next_byte w s)) (after_read w s))
 begun_by p w op.Put (value ∷ []) s = does (gives (value % 256) (after_write s value))
@@ -105,16 +100,16 @@ after_call wants active (stops outcome s) = stops outcome s
 -- ---- ends
 
 -- at its end the call of the graph is over, or a block is entered by the edge at a place
-pub data Left : Type 0 where
-  ends : Result (Option ℕ) → Left
-  goes : (to place : ℕ) → Store → Left
+pub data Exit : Type 0 where
+  ends : Result (Option ℕ) → Exit
+  goes : (to place : ℕ) → Store → Exit
 
 -- a jump to a block that is not later in the order uses a turn
-abbrev pub back : ℕ → ℕ → ℕ → Store → Left
+abbrev pub back : ℕ → ℕ → ℕ → Store → Exit
 back zero to place s = ends (stops (came Running) s)
 back (suc turns) to place s = goes to place (record s { turns = turns })
 
-abbrev pub jump : Firm → ℕ → ℕ → ℕ → Store → Left
+abbrev pub jump : Firm → ℕ → ℕ → ℕ → Store → Exit
 jump g b to place s = if is_later g b to then goes to place s else back s.turns to place s
 
 -- the first place of b among the predecessors, and the next one
@@ -125,47 +120,47 @@ abbrev pub next_edge_place : List ℕ → ℕ → ℕ
 next_edge_place preds b = let first = edge_place preds b in suc first + edge_place (drop (suc first) preds) b
 
 -- where both targets of a branch are one block, the earlier of the two places is that of the first
-abbrev pub branch : Bool → Firm → ℕ → ℕ → ℕ → Store → Left
+abbrev pub branch : Bool → Firm → ℕ → ℕ → ℕ → Store → Exit
 branch true g b first second s = jump g b first (edge_place (preds_of g first) b) s
 branch false g b first second s =
     jump g b second (if first == second then next_edge_place (preds_of g second) b else edge_place (preds_of g second) b) s
 
-abbrev pub left_by : Firm → ℕ → (ℕ → ℕ) → Option FirmEnd → Store → Left
-left_by g b word (Some (Jump to)) s = jump g b to.number (edge_place (preds_of g to.number) b) s
-left_by g b word (Some (Branch n first second)) s = branch (not (word n.number == 0)) g b first.number second.number s
-left_by g b word (Some (Return m (Some n))) s = ends (gives (Some (word n.number)) s)
-left_by g b word (Some (Return m None)) s = ends (gives None s)
-left_by g b word None s = ends (stops (stuck malformed) s)
+abbrev pub exit_by : Firm → ℕ → (ℕ → ℕ) → Option FirmEnd → Store → Exit
+exit_by g b word (Some (Jump to)) s = jump g b to.number (edge_place (preds_of g to.number) b) s
+exit_by g b word (Some (Branch n first second)) s = branch (not (word n.number == 0)) g b first.number second.number s
+exit_by g b word (Some (Return m (Some n))) s = ends (gives (Some (word n.number)) s)
+exit_by g b word (Some (Return m None)) s = ends (gives None s)
+exit_by g b word None s = ends (stops (stuck malformed) s)
 
 module _ (p : Program) (w : World) where
   abbrev pub begun : Firm → ℕ → Frame → ℕ → Store → Begun
   begun g b f n s = begun_in p w (word_at w.base g b f) (node_at g n) s
 
-  abbrev pub left : Firm → ℕ → Frame → Store → Left
-  left g b f s = left_by g b (word_at w.base g b f) (end_of g b) s
+  abbrev pub exit : Firm → ℕ → Frame → Store → Exit
+  exit g b f s = exit_by g b (word_at w.base g b f) (end_of g b) s
 
   -- ---- the run as a relation
 
   -- The call of a graph is in a block, where these nodes are still to act in this order before the block ends; what it comes to
   -- from there.
   pub data Runs : Firm → ℕ → List ℕ → Frame → Store → Result (Option ℕ) → Type 0 where
-    acts : {g : Firm} {b n : ℕ} {rest : List ℕ} {f : Frame} {s : Store} {r : Result (Option ℕ)} → (word : ℕ) (t : Store)
+    acted : {g : Firm} {b n : ℕ} {rest : List ℕ} {f : Frame} {s : Store} {r : Result (Option ℕ)} → (word : ℕ) (t : Store)
         → begun g b f n s ≡ does (gives word t) → Runs g b rest (with_word f n word) t r → Runs g b (n ∷ rest) f s r
-    stops_at : {g : Firm} {b n : ℕ} {rest : List ℕ} {f : Frame} {s : Store} → (outcome : FirmOutcome) (t : Store)
+    stopped : {g : Firm} {b n : ℕ} {rest : List ℕ} {f : Frame} {s : Store} → (outcome : FirmOutcome) (t : Store)
         → begun g b f n s ≡ does (stops outcome t) → Runs g b (n ∷ rest) f s (stops outcome t)
-    calls : {g : Firm} {b n : ℕ} {rest : List ℕ} {f : Frame} {s : Store} {r : Result (Option ℕ)}
-        → (callee : Firm) (arguments : List ℕ) (t : Store) (called : Result (Option ℕ)) (word : ℕ) (u : Store)
+    called : {g : Firm} {b n : ℕ} {rest : List ℕ} {f : Frame} {s : Store} {r : Result (Option ℕ)}
+        → (callee : Firm) (arguments : List ℕ) (t : Store) (inner : Result (Option ℕ)) (word : ℕ) (u : Store)
         → begun g b f n s ≡ enters callee arguments t
-        → Runs callee (first_of callee.order) (chain callee (first_of callee.order)) (first_frame arguments) t called
-        → after_call (wants_value g n) s.active called ≡ gives word u → Runs g b rest (with_word f n word) u r → Runs g b (n ∷ rest) f s r
-    stops_in : {g : Firm} {b n : ℕ} {rest : List ℕ} {f : Frame} {s : Store}
-        → (callee : Firm) (arguments : List ℕ) (t : Store) (called : Result (Option ℕ)) (outcome : FirmOutcome) (u : Store)
+        → Runs callee (first_of callee.order) (chain callee (first_of callee.order)) (first_frame arguments) t inner
+        → after_call (wants_value g n) s.active inner ≡ gives word u → Runs g b rest (with_word f n word) u r → Runs g b (n ∷ rest) f s r
+    stopped_in : {g : Firm} {b n : ℕ} {rest : List ℕ} {f : Frame} {s : Store}
+        → (callee : Firm) (arguments : List ℕ) (t : Store) (inner : Result (Option ℕ)) (outcome : FirmOutcome) (u : Store)
         → begun g b f n s ≡ enters callee arguments t
-        → Runs callee (first_of callee.order) (chain callee (first_of callee.order)) (first_frame arguments) t called
-        → after_call (wants_value g n) s.active called ≡ stops outcome u → Runs g b (n ∷ rest) f s (stops outcome u)
-    ends_at : {g : Firm} {b : ℕ} {f : Frame} {s : Store} {r : Result (Option ℕ)} → left g b f s ≡ ends r → Runs g b [] f s r
-    goes_on : {g : Firm} {b : ℕ} {f : Frame} {s : Store} {r : Result (Option ℕ)} → (to place : ℕ) (t : Store)
-        → left g b f s ≡ goes to place t → Runs g to (chain g to) (entered w.base g b f to place) t r → Runs g b [] f s r
+        → Runs callee (first_of callee.order) (chain callee (first_of callee.order)) (first_frame arguments) t inner
+        → after_call (wants_value g n) s.active inner ≡ stops outcome u → Runs g b (n ∷ rest) f s (stops outcome u)
+    ended : {g : Firm} {b : ℕ} {f : Frame} {s : Store} {r : Result (Option ℕ)} → exit g b f s ≡ ends r → Runs g b [] f s r
+    went : {g : Firm} {b : ℕ} {f : Frame} {s : Store} {r : Result (Option ℕ)} → (to place : ℕ) (t : Store)
+        → exit g b f s ≡ goes to place t → Runs g to (chain g to) (after_edge w.base g b f to place) t r → Runs g b [] f s r
 
   -- ---- the run as a function
 
@@ -185,13 +180,13 @@ module _ (p : Program) (w : World) where
         after_call (wants_value g n) active (again callee (first_of callee.order) (first_frame arguments) s)
 
     -- where a block is left: on to a later block, or back
-    abbrev pub left_to : (ℕ → Frame → Store → Result (Option ℕ)) → ℕ → Frame → Left → Result (Option ℕ)
-    left_to forth b f (ends r) = r
-    left_to forth b f (goes to place s) =
-        elim (is_later g b to) [ true ↦ forth to (entered w.base g b f to place) s | false ↦ again g to (entered w.base g b f to place) s ]
+    abbrev pub exit_to : (ℕ → Frame → Store → Result (Option ℕ)) → ℕ → Frame → Exit → Result (Option ℕ)
+    exit_to forth b f (ends r) = r
+    exit_to forth b f (goes to place s) =
+        elim (is_later g b to) [ true ↦ forth to (after_edge w.base g b f to place) s | false ↦ again g to (after_edge w.base g b f to place) s ]
 
     abbrev pub in_block : (ℕ → Frame → Store → Result (Option ℕ)) → ℕ → List ℕ → Frame → Store → Result (Option ℕ)
-    in_block forth b [] f s = left_to forth b f (left g b f s)
+    in_block forth b [] f s = exit_to forth b f (exit g b f s)
     in_block forth b (n ∷ rest) f s =
         then_word (given s.active n (begun g b f n s)) (λ word t. in_block forth b rest (with_word f n word) t)
 
@@ -232,3 +227,12 @@ unfoldable pub firm_run : Program → (image : List ℕ) → Layout → (input :
 firm_run p image layout input zero turns = record { outcome = came Deep; out = [] }
 firm_run p image layout input (suc depth) turns =
     run_main p image (record { base = layout.cdata; input = input; depth = suc depth }) turns (main_of p)
+
+-- the same as a relation
+pub data RunsProgram (p : Program) (image : List ℕ) (layout : Layout) (input : List ℕ) : ℕ → ℕ → FirmRan → Type 0 where
+  without_depth : {turns : ℕ} → RunsProgram p image layout input zero turns (record { outcome = came Deep; out = [] })
+  without_main : {depth turns : ℕ} → ((main : Firm) → main_of p ≡ Some main → main.params ≢ 0)
+      → RunsProgram p image layout input (suc depth) turns (record { outcome = stuck no_main; out = [] })
+  with_main : {depth turns : ℕ} {r : Result (Option ℕ)} → (main : Firm) → main_of p ≡ Some main → main.params ≡ 0
+      → Runs p (record { base = layout.cdata; input = input; depth = suc depth }) main (first_of main.order) (chain main (first_of main.order))
+      (first_frame []) (first_store image turns) r → RunsProgram p image layout input (suc depth) turns (ran r)

@@ -1,12 +1,11 @@
 // What holds of all runs of graphs.
-ghost use Rattle.std.specs.Prelude.{◌≡◌, ◌⊎◌, ℕ, suc, ◌≤◌, List, [], Option, Some, slice_get};
+ghost use Rattle.std.specs.Prelude.{◌≡◌, ◌⊎◌, ℕ, ◌≤◌, List, Option, Some, slice_get};
 ghost use Rattle.cp_base.specs.declared.layout.Layout.{Layout};
-ghost use Rattle.run_model.specs.Stores.{World, Store, first_store};
+ghost use Rattle.run_model.specs.Stores.{World, Store};
 ghost use Rattle.firm_rules.specs.Graphs.{Firm, Program};
-ghost use Rattle.firm_rules.specs.Lookups.{first_of};
 ghost use Rattle.firm_rules.specs.Rules.{chain, Obeys, IsClosed};
-ghost use Rattle.firm_rules.specs.Frames.{Frame, first_frame};
-ghost use Rattle.firm_rules.specs.Runs.{Cause, no_main, no_status, bad_access, no_value, stuck, Result, Runs, run, main_of, ran, firm_run};
+ghost use Rattle.firm_rules.specs.Frames.{Frame};
+ghost use Rattle.firm_rules.specs.Runs.{Cause, no_main, no_status, bad_access, no_value, stuck, Result, Runs, run, FirmRan, firm_run, RunsProgram};
 
 /// The run as a function gives what the run as a relation says, where the bound of the turns is not below those that are
 /// left; and the relation says something.
@@ -18,11 +17,11 @@ pub fn run_agrees()
     ensures says { (p : Program) (w : World) (turns : ℕ) (g : Firm) (b : ℕ) (f : Frame) (s : Store)
         → s.turns ≤ turns
         → Runs p w g b (chain g b) f s (run p w turns g b f s) }
-    ensures main { (p : Program) (image : List ℕ) (layout : Layout) (input : List ℕ) (depth turns : ℕ) (main : Firm) (r : Result (Option ℕ))
-        → main_of p ≡ Some main
-        → main.params ≡ 0
-        → Runs p (record { base = layout.cdata; input = input; depth = suc depth }) main (first_of main.order) (chain main (first_of main.order)) (first_frame []) (first_store image turns) r
-        → firm_run p image layout input (suc depth) turns ≡ ran r }
+    ensures program_gives { (p : Program) (image : List ℕ) (layout : Layout) (input : List ℕ) (depth turns : ℕ) (ran : FirmRan)
+        → RunsProgram p image layout input depth turns ran
+        → firm_run p image layout input depth turns ≡ ran }
+    ensures program_says { (p : Program) (image : List ℕ) (layout : Layout) (input : List ℕ) (depth turns : ℕ)
+        → RunsProgram p image layout input depth turns (firm_run p image layout input depth turns) }
 {}
 
 /// A run is determined, from any point on.

@@ -1,5 +1,5 @@
 use Rattle.firm_rules.proofs.Agreement.{run_runs, runs_are}
-use Rattle.firm_rules.proofs.RunLaws.{firm_is}
+use Rattle.firm_rules.proofs.RunLaws.{program_is, program_runs}
 use Rattle.firm_rules.proofs.laws.run_agrees.Goals as goal
 
 pub returns-clause-gives : goal.returns-clause-gives
@@ -8,5 +8,8 @@ returns-clause-gives c = λ p w turns h b f s r few is. runs_are p w turns few i
 pub returns-clause-says : goal.returns-clause-says
 returns-clause-says c = λ p w turns h b f s few. run_runs p w turns h b f s few
 
-pub returns-clause-main : goal.returns-clause-main
-returns-clause-main c = λ p image layout input depth turns main r is none one. firm_is p image layout input depth turns main r is none one
+pub returns-clause-program_gives : goal.returns-clause-program_gives
+returns-clause-program_gives c = λ p image layout input depth turns x one. program_is p image layout input depth turns x one
+
+pub returns-clause-program_says : goal.returns-clause-program_says
+returns-clause-program_says c = λ p image layout input depth turns. program_runs p image layout input depth turns
