@@ -5,3 +5,8 @@ mod Agreement
 mod Chains
 mod Stuck
 mod RunLaws
+mod Along
+mod Nodes
+mod Visits
+mod Points
+mod Edges
