@@ -10,3 +10,5 @@ mod Nodes
 mod Visits
 mod Points
 mod Edges
+mod Words
+mod Order

@@ -20,7 +20,7 @@ same_some x y e = ap (λ o. unwrap_or o x) e
 
 -- ---- the node is there
 
-is_there : (found : Option FirmNode) (node : FirmNode) → if_there found ≡ Some node → (found ≡ Some node) × (node.there ≡ true)
+pub is_there : (found : Option FirmNode) (node : FirmNode) → if_there found ≡ Some node → (found ≡ Some node) × (node.there ≡ true)
 is_there None node e = absurd (none_is_not_some node e)
 is_there (Some x) node e = by x.there refl e
   where
