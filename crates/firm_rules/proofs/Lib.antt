@@ -12,3 +12,9 @@ mod Points
 mod Edges
 mod Words
 mod Order
+mod Testing
+mod Deciding
+mod DecidingOrder
+mod DecidingWalks
+mod RuleGraphs
+mod RuleRows
