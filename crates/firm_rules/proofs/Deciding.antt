@@ -1,23 +1,17 @@
 -- Tests of the rules, some with a certificate, and that a graph which passes them obeys the rules.
-use Rattle.std.proofs.Common.{◌≡◌, ◌≢◌, refl, sym, ap, ◌∙◌, subst, ℕ, zero, suc, ◌+◌, ◌<◌, ◌≤◌, ◌==◌, arith, Bool, true, false, true≢false, ◌⊎◌, inl, inr, List, [], ◌∷◌, length, Option, Some, None}
-use Rattle.std.specs.Prelude.{slice_get, not, nat_lt, ◌&&◌, ◌||◌, map, unwrap_or, count_by, MatchBool}
-use Rattle.std.specs.List.{list_all, list_any}
-use Rattle.std.proofs.lemmas.Bool.{ltb-true, lt-ltb}
-use Rattle.ssa_core.specs.Walks.{Edge, Walk, end, IsWalk, Visits}
-use Rattle.firm_rules.specs.declared.node.NodeId.{NodeId}
+use Rattle.std.proofs.Common.{◌≡◌, ◌≢◌, refl, sym, ap, ◌∙◌, ℕ, ◌<◌, ◌==◌, arith, Bool, true, false, true≢false, List, [], ◌∷◌, length, Option, Some, None}
+use Rattle.std.specs.Prelude.{not, nat_lt, ◌&&◌, ◌||◌, map}
+use Rattle.std.specs.List.{list_all}
+use Rattle.std.proofs.lemmas.Bool.{ltb-true}
 use Rattle.firm_rules.specs.declared.node.Mode.{Mode}
 use Rattle.firm_rules.specs.declared.node.Mode.TheVariants.{Word, Memory, Tuple}
-use Rattle.firm_rules.specs.declared.node.NodeOp.{NodeOp}
-use Rattle.firm_rules.specs.declared.node.NodeOp.TheVariants.{Start, Phi}
 use Rattle.firm_rules.specs.declared.node.FirmEnd.{FirmEnd}
 use Rattle.firm_rules.specs.declared.node.FirmEnd.TheVariants.{Jump, Branch, Return}
-use Rattle.firm_rules.specs.Graphs.{FirmNode, Firm, Operands, exactly, memory_and_words, all_of, operands_of, acts}
-use Rattle.firm_rules.specs.Lookups.{node_at, mode_at, first_of, rank, IsBlock, preds_of, end_of, targets, node_id, shape}
+use Rattle.firm_rules.specs.Graphs.{FirmNode, Firm, Operands, exactly, memory_and_words, all_of, operands_of}
+use Rattle.firm_rules.specs.Lookups.{node_at, mode_at, IsBlock, preds_of, end_of}
 use Rattle.firm_rules.specs.Rules.{is_phi, HaveMode, OperandsFit, EndFits, PhiIsFull, IsOperand, Leads, at_once, onward}
-use Rattle.firm_rules.proofs.Steps.{Test, alike, apart, test}
 use Rattle.firm_rules.proofs.Chains.{both_true}
-use Rattle.firm_rules.proofs.Nodes.{none_is_not_some, same_some}
-use Rattle.firm_rules.proofs.Testing.{either_true, or_else, or_then, equal, equal_is, unequal_is, all_at, Found, any_at, pass, pass_at, nodes_at, blocks_at, edges_pass, edges_at}
+use Rattle.firm_rules.proofs.Testing.{or_else, or_then, equal, all_at, pass, nodes_at, blocks_at}
 
 -- ---- 1
 
@@ -97,9 +91,10 @@ module _ (g : Firm) where
 
   pub sound_1 : test_1 ≡ true → Rule1 g
   sound_1 e =
-      let parts = both_true (pass (λ n node. fit_test (operands_of node.op) node.operands) g.nodes) (list_all (λ b. end_test (end_of g b)) g.order) e in
-      (λ n node is. fit_is (operands_of node.op) node.operands (nodes_at g (λ n node. fit_test (operands_of node.op) node.operands) parts.0 n node is),
-      λ b is. end_is (end_of g b) (blocks_at g (λ b. end_test (end_of g b)) parts.1 b is))
+      let parts = both_true (pass (λ n node. fit_test (operands_of node.op) node.operands) g.nodes) (list_all (λ b. end_test (end_of g b)) g.order) e in (
+        λ n node is. fit_is (operands_of node.op) node.operands (nodes_at g (λ n node. fit_test (operands_of node.op) node.operands) parts.0 n node is),
+        λ b is. end_is (end_of g b) (blocks_at g (λ b. end_test (end_of g b)) parts.1 b is),
+      )
 
 -- ---- 2
 

@@ -1,16 +1,15 @@
 -- Tests of the rules on the order and the edges.
-use Rattle.std.proofs.Common.{◌≡◌, ◌≢◌, refl, sym, ap, ◌∙◌, subst, ℕ, zero, suc, ◌+◌, ◌<◌, ◌≤◌, ◌==◌, arith, Bool, true, false, true≢false, ◌⊎◌, inl, inr, List, [], ◌∷◌, length, Option, Some, None}
-use Rattle.std.specs.Prelude.{slice_get, not, nat_lt, ◌&&◌, ◌||◌, count_by, unwrap_or}
+use Rattle.std.proofs.Common.{◌≡◌, ◌≢◌, refl, sym, ap, ◌∙◌, ℕ, ◌<◌, ◌≤◌, ◌==◌, arith, Bool, true, false, true≢false, ◌⊎◌, inl, inr, List, [], ◌∷◌, length, Option, Some, None}
+use Rattle.std.specs.Prelude.{not, nat_lt, ◌&&◌, ◌||◌, count_by, unwrap_or}
 use Rattle.std.specs.List.{list_all, list_any}
 use Rattle.std.proofs.lemmas.Bool.{ltb-true, lt-ltb}
 use Rattle.firm_rules.specs.declared.node.NodeOp.{NodeOp}
 use Rattle.firm_rules.specs.declared.node.NodeOp.TheVariants.{Start}
 use Rattle.firm_rules.specs.Graphs.{FirmNode, Firm}
 use Rattle.firm_rules.specs.Lookups.{node_at, first_of, rank, IsBlock, preds_of, end_of, targets}
-use Rattle.firm_rules.specs.Rules.{is_phi, is_start, first_node, FirstFits, IsEdge, IsEnteredEarlier, IsEnteredAtHead, EdgesFit}
+use Rattle.firm_rules.specs.Rules.{is_phi, is_start, first_node, FirstFits, IsEnteredEarlier, IsEnteredAtHead, EdgesFit}
 use Rattle.firm_rules.proofs.Chains.{both_true, first_passes}
-use Rattle.firm_rules.proofs.Nodes.{none_is_not_some}
-use Rattle.firm_rules.proofs.Testing.{either_true, or_else, or_then, equal, equal_is, unequal_is, all_at, any_at, pass, nodes_at, blocks_at, edges_pass, edges_at}
+use Rattle.firm_rules.proofs.Testing.{or_else, or_then, equal, equal_is, unequal_is, all_at, any_at, pass, nodes_at, blocks_at, edges_pass, edges_at}
 
 not_less : (m n : ℕ) → n ≤ m → nat_lt m n ≡ true → ⊥
 not_less m n le e = let less = ltb-true m n e in omega (arith, le, less)
@@ -92,7 +91,7 @@ module _ (g : Firm) where
   entered_earlier : list_all earlier_test g.order ≡ true → (b : ℕ) → IsBlock g b → b ≢ first → IsEnteredEarlier g b
   entered_earlier e b is other =
       let found = any_at (λ q. nat_lt (rank g q) (rank g b)) (preds_of g b)
-          (or_then (b == first) (list_any (λ q. nat_lt (rank g q) (rank g b)) (preds_of g b)) (unequal_is b first other) (blocks_at g earlier_test e b is)) in
+      (or_then (b == first) (list_any (λ q. nat_lt (rank g q) (rank g b)) (preds_of g b)) (unequal_is b first other) (blocks_at g earlier_test e b is)) in
       (found.element, (found.index, found.at), ltb-true (rank g found.element) (rank g b) found.passes)
 
   pub sound_5 : test_5 ≡ true → Rule5 g
@@ -124,8 +123,8 @@ module _ (g : Firm) where
   pub sound_6 : test_6 ≡ true → Rule6 g
   sound_6 e last is head from to back not_later edge outside_is after upto =
       let inner = or_then (nat_lt (rank g last) (rank g head)) (edges_pass g (by_head head last))
-          (is_false (nat_lt (rank g last) (rank g head)) (not_less (rank g last) (rank g head) not_later))
-          (edges_at g back_test e head back.0 last back.1) in
+      (is_false (nat_lt (rank g last) (rank g head)) (not_less (rank g last) (rank g head) not_later))
+      (edges_at g back_test e head back.0 last back.1) in
       let entry = edges_at g (by_head head last) inner to edge.0 from edge.1 in
       let rest = or_else (outside head last from) (not (nat_lt (rank g head) (rank g to)) || nat_lt (rank g last) (rank g to)) (is_outside outside_is) entry in
       not_less (rank g last) (rank g to) upto (or_else (nat_lt (rank g head) (rank g to)) (nat_lt (rank g last) (rank g to)) (lt-ltb (rank g head) (rank g to) after) rest)

@@ -1,18 +1,16 @@
 -- Tests of the rules on walks, by a certificate: for each block the node that gives the memory which it sees, and blocks that stand
 -- on each walk to it.
-use Rattle.std.proofs.Common.{◌≡◌, refl, sym, ap, ◌∙◌, subst, ℕ, zero, suc, ◌==◌, Bool, true, false, true≢false, ◌⊎◌, inl, inr, List, [], ◌∷◌, Option, Some, None}
+use Rattle.std.proofs.Common.{◌≡◌, refl, sym, ap, ◌∙◌, subst, ℕ, ◌==◌, Bool, true, false, true≢false, ◌⊎◌, inl, inr, List, [], ◌∷◌, Option, Some, None}
 use Rattle.std.specs.Prelude.{slice_get, not, ◌&&◌, ◌||◌, unwrap_or, MatchBool}
 use Rattle.std.specs.List.{list_all, list_any}
-use Rattle.ssa_core.specs.Walks.{Edge, Walk, end, IsWalk, Visits}
-use Rattle.firm_rules.specs.declared.node.NodeId.{NodeId}
+use Rattle.ssa_core.specs.Walks.{Walk, end, IsWalk, Visits}
 use Rattle.firm_rules.specs.declared.node.FirmEnd.{FirmEnd}
-use Rattle.firm_rules.specs.declared.node.FirmEnd.TheVariants.{Jump, Branch, Return}
+use Rattle.firm_rules.specs.declared.node.FirmEnd.TheVariants.{Return}
 use Rattle.firm_rules.specs.Graphs.{FirmNode, Firm, acts}
 use Rattle.firm_rules.specs.Lookups.{node_at, first_of, IsBlock, preds_of, end_of, shape}
-use Rattle.firm_rules.specs.Rules.{is_phi, is_start, is_memory_phi, acts_in, giver, first_node, chain, memory_phi, last_of, memory_into, memory_after, ComesTo, MemoryFits, IsDefined, IsUsed, OperandsDefined, uses, EndDefined}
+use Rattle.firm_rules.specs.Rules.{is_phi, is_start, is_memory_phi, acts_in, giver, first_node, chain, memory_phi, last_of, memory_into, MemoryFits, IsDefined, OperandsDefined, uses, EndDefined}
 use Rattle.firm_rules.proofs.Chains.{both_true}
-use Rattle.firm_rules.proofs.Nodes.{none_is_not_some, same_some}
-use Rattle.firm_rules.proofs.Testing.{either_true, or_else, or_then, equal, equal_is, all_at, Found, any_at, pass, pass_at, nodes_at, blocks_at, edges_pass, edges_at}
+use Rattle.firm_rules.proofs.Testing.{either_true, or_else, equal, all_at, Found, any_at, pass, pass_at, nodes_at, blocks_at, edges_pass, edges_at}
 
 pub record Facts : Type 0 where
   pub into : List ℕ
@@ -205,8 +203,9 @@ module _ (g : Firm) (facts : Facts) where
 
   abbrev operands_test : ℕ → FirmNode → Bool
   operands_test n node = pass (λ index operand. elim (is_phi node.op) [
-      true ↦ defined_at (slice_get (preds_of g node.block) index) operand |
-      false ↦ defined operand node.block ]) node.operands
+    | true ↦ defined_at (slice_get (preds_of g node.block) index) operand
+    | false ↦ defined operand node.block
+  ]) node.operands
 
   abbrev ends_test : ℕ → Bool
   ends_test b = list_all (λ n. defined n b) (uses (end_of g b))
@@ -238,8 +237,9 @@ module _ (g : Firm) (facts : Facts) where
       nodes : (n : ℕ) (node : FirmNode) → node_at g n ≡ Some node → OperandsDefined g node
       nodes n node there index operand b at used = by (is_phi node.op) used
           (pass_at (λ index operand. elim (is_phi node.op) [
-              true ↦ defined_at (slice_get (preds_of g node.block) index) operand |
-              false ↦ defined operand node.block ]) node.operands (nodes_at g operands_test three.0 n node there) index operand at)
+            | true ↦ defined_at (slice_get (preds_of g node.block) index) operand
+            | false ↦ defined operand node.block
+          ]) node.operands (nodes_at g operands_test three.0 n node there) index operand at)
         where
           by : (t : Bool) → MatchBool t (slice_get (preds_of g node.block) index ≡ Some b) (node.block ≡ b)
               → elim t [ true ↦ defined_at (slice_get (preds_of g node.block) index) operand | false ↦ defined operand node.block ] ≡ true → IsDefined g operand b

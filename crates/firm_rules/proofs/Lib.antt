@@ -18,3 +18,5 @@ mod DecidingOrder
 mod DecidingWalks
 mod RuleGraphs
 mod RuleRows
+mod RuleBreaks
+mod WholeRows

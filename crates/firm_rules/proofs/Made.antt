@@ -127,3 +127,22 @@ both_ways n = graph (codes "main") 0 (block [] (branch 1 1 1) ∷ block (0 ∷ 0
 abbrev pub endless : Firm
 endless = graph (codes "main") 0 (block [] (jump 1) ∷ block (0 ∷ 1 ∷ []) (jump 1) ∷ [])
     (node Start 0 [] ∷ node (Const 120) 0 [] ∷ node (Phi Memory) 1 (0 ∷ 4 ∷ []) ∷ node Put 1 (2 ∷ 1 ∷ []) ∷ node ProjM 1 (3 ∷ []) ∷ [])
+
+-- int main(void){return f(f(3));}
+abbrev pub main_of_twice : Firm
+main_of_twice = graph (codes "main") 0 (block [] (return 6 7) ∷ [])
+    (node Start 0 [] ∷ node (Const 3) 0 [] ∷ node (Call 0) 0 (0 ∷ 1 ∷ []) ∷ node ProjM 0 (2 ∷ []) ∷ node ProjR 0 (2 ∷ [])
+    ∷ node (Call 0) 0 (3 ∷ 4 ∷ []) ∷ node ProjM 0 (5 ∷ []) ∷ node ProjR 0 (5 ∷ []) ∷ [])
+
+-- adds 3 to the word at the offset 0, as often as it takes to make it 10 or more, and returns it
+abbrev pub store_in_loop : Firm
+store_in_loop = graph (codes "main") 0
+    (block [] (jump 1) ∷ block (0 ∷ 1 ∷ []) (branch 12 1 2) ∷ block (1 ∷ []) (return 9 8) ∷ [])
+    (node Start 0 [] ∷ node (Addr 0) 0 [] ∷ node (Const 3) 0 [] ∷ node (Const 10) 0 [] ∷ node (Phi Memory) 1 (0 ∷ 9 ∷ [])
+    ∷ node (Load W32) 1 (4 ∷ 1 ∷ []) ∷ node ProjM 1 (5 ∷ []) ∷ node ProjR 1 (5 ∷ []) ∷ node (Apply word.Add) 1 (7 ∷ 2 ∷ [])
+    ∷ node (Store W32) 1 (6 ∷ 1 ∷ 8 ∷ []) ∷ node (Const 0) 1 [] ∷ node (Apply word.Sub) 1 (8 ∷ 10 ∷ []) ∷ node (Apply (word.Cmp LtS)) 1 (11 ∷ 3 ∷ []) ∷ [])
+
+-- a load without an address
+abbrev pub load_without_address : Firm
+load_without_address = graph (codes "main") 0 (block [] (return 0 1) ∷ [])
+    (node Start 0 [] ∷ node (Const 7) 0 [] ∷ node (Load W32) 0 (0 ∷ []) ∷ [])

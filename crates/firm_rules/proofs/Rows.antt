@@ -1,12 +1,12 @@
 -- Worked rows of runs.
 use Rattle.std.proofs.Common.{◌≡◌, refl, ℕ, List, [], ◌∷◌}
-use Rattle.std.specs.Prelude.{codes}
+use Rattle.std.specs.Prelude.{codes, ◌%◌}
 use Rattle.run_model.specs.declared.outcome.Outcome.TheVariants.{Ended, Running, Deep}
 use Rattle.cp_base.specs.declared.layout.Layout.{Layout}
 use Rattle.firm_rules.specs.Graphs.{Firm, Program}
 use Rattle.firm_rules.specs.Frames.{word_within}
-use Rattle.firm_rules.specs.Runs.{FirmOutcome, FirmRan, came, stuck, no_main, no_status, bad_access, no_graph, no_value, run, firm_run}
-use Rattle.firm_rules.proofs.Made.{return_seven, swap_in_loop, unset_operand, factorial, main_of_factorial, store_and_load, load_at, store_at, returns_nothing, calls, returns_call, both_ways, endless, graph, block, return}
+use Rattle.firm_rules.specs.Runs.{FirmOutcome, FirmRan, came, stuck, no_main, no_status, bad_access, no_graph, no_value, malformed, run, firm_run}
+use Rattle.firm_rules.proofs.Made.{return_seven, swap_in_loop, unset_operand, factorial, main_of_factorial, store_and_load, load_at, store_at, returns_nothing, calls, returns_call, both_ways, endless, main_of_twice, store_in_loop, load_without_address, graph, block, return}
 
 abbrev layout : Layout
 layout = record { code = 65536; cdata = 268435456; top = 2147483632; stack = 65536 }
@@ -71,6 +71,15 @@ deep_first : ran (factorial ∷ main_of_factorial ∷ []) [] 1 0 ≡ comes (came
 unfolding firm_run run word_within
 deep_first = refl
 
+-- f(f(3)) is f(6), after 3 and 6 calls
+call_in_argument : ran (factorial ∷ main_of_twice ∷ []) [] 7 9 ≡ comes (came (Ended (720 % 256))) []
+unfolding firm_run run word_within
+call_in_argument = refl
+
+call_in_argument_cut_off : ran (factorial ∷ main_of_twice ∷ []) [] 7 8 ≡ comes (came Running) []
+unfolding firm_run run word_within
+call_in_argument_cut_off = refl
+
 -- a call without `ProjR` may get no value
 no_value_wanted : ran (calls 1 ∷ returns_nothing (codes "f") ∷ []) [] 2 1 ≡ comes (came (Ended 3)) []
 unfolding firm_run run word_within
@@ -85,6 +94,16 @@ stored_and_loaded = refl
 loaded_word : ran (load_at 4 ∷ []) [] 1 0 ≡ comes (came (Ended 5)) []
 unfolding firm_run run word_within
 loaded_word = refl
+
+-- the word is 67305985, so it is stored once
+stored_in_loop : ran (store_in_loop ∷ []) [] 1 0 ≡ comes (came (Ended 4)) []
+unfolding firm_run run word_within
+stored_in_loop = refl
+
+-- from 1 it is 10 after three times
+stored_three_times : firm_run (program (store_in_loop ∷ [])) (1 ∷ 0 ∷ 0 ∷ 0 ∷ []) layout [] 1 2 ≡ comes (came (Ended 10)) []
+unfolding firm_run run word_within
+stored_three_times = refl
 
 -- ---- edges
 
@@ -101,6 +120,11 @@ unfolding firm_run run word_within
 endless_x = refl
 
 -- ---- each cause of being stuck
+
+-- the depth is tested before there is any `main`
+no_depth_no_main : ran (factorial ∷ []) [] 0 0 ≡ comes (came Deep) []
+unfolding firm_run run word_within
+no_depth_no_main = refl
 
 without_main : ran (factorial ∷ []) [] 1 0 ≡ comes (stuck no_main) []
 unfolding firm_run run word_within
@@ -137,3 +161,7 @@ calls_with_too_few = refl
 value_wanted : ran (returns_call 1 ∷ returns_nothing (codes "f") ∷ []) [] 2 1 ≡ comes (stuck no_value) []
 unfolding firm_run run word_within
 value_wanted = refl
+
+without_address : ran (load_without_address ∷ []) [] 1 0 ≡ comes (stuck malformed) []
+unfolding firm_run run word_within
+without_address = refl

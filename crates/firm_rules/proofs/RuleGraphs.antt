@@ -1,10 +1,9 @@
 -- Graphs by hand that break a rule, and near ones that obey all of them.
-use Rattle.std.proofs.Common.{ℕ, true, List, [], ◌∷◌, Option, Some, None}
+use Rattle.std.proofs.Common.{ℕ, true, List, [], ◌∷◌, None}
 use Rattle.std.specs.Prelude.{codes}
 use Rattle.cp_base.specs.declared.op.Op.TheVariants as word
 use Rattle.cp_base.specs.declared.op.Kind.TheVariants.{W32}
 use Rattle.firm_rules.specs.declared.node.Mode.TheVariants.{Word, Memory}
-use Rattle.firm_rules.specs.declared.node.NodeOp.{NodeOp}
 use Rattle.firm_rules.specs.declared.node.NodeOp.TheVariants.{Start, Const, Apply, Load, Store, Put, ProjM, ProjR, Phi}
 use Rattle.firm_rules.specs.Graphs.{FirmNode, FirmBlock, Firm}
 use Rattle.firm_rules.proofs.Made.{node, block, graph, jump, branch, return}

@@ -2,7 +2,7 @@
 use Rattle.std.proofs.Common.{◌≡◌, refl, ℕ, ◌<◌, Bool, true, List, [], ◌∷◌, length, arith}
 use Rattle.std.specs.Prelude.{◌&&◌}
 use Rattle.firm_rules.specs.Graphs.{Firm}
-use Rattle.firm_rules.specs.Rules.{Obeys, memory_into}
+use Rattle.firm_rules.specs.Rules.{Obeys}
 use Rattle.firm_rules.proofs.Chains.{both_true}
 use Rattle.firm_rules.proofs.Deciding.{test_1, test_2, test_3, sound_1, sound_2, sound_3}
 use Rattle.firm_rules.proofs.DecidingOrder.{test_5, test_6, test_8, sound_5, sound_6, sound_8}

@@ -1,6 +1,6 @@
 -- Tests of lists, and what it says that they pass.
-use Rattle.std.proofs.Common.{◌≡◌, refl, sym, ap, ◌∙◌, subst, ℕ, zero, suc, ◌+◌, ◌<◌, ◌≤◌, ◌==◌, arith, Bool, true, false, true≢false, ◌⊎◌, inl, inr, List, [], ◌∷◌, length, Option, Some, None}
-use Rattle.std.specs.Prelude.{slice_get, not, cond, nat_lt, ◌&&◌, ◌||◌, option_map, unwrap_or}
+use Rattle.std.proofs.Common.{◌≡◌, refl, sym, ◌∙◌, subst, ℕ, zero, suc, ◌+◌, ◌<◌, ◌==◌, arith, Bool, true, false, true≢false, ◌⊎◌, inl, inr, List, [], ◌∷◌, length, Option, Some, None}
+use Rattle.std.specs.Prelude.{slice_get, not, cond, ◌&&◌, ◌||◌, option_map, unwrap_or}
 use Rattle.std.specs.List.{position_or_len, list_all, list_any}
 use Rattle.firm_rules.specs.Graphs.{FirmNode, FirmBlock, Firm}
 use Rattle.firm_rules.specs.Lookups.{node_at, IsBlock, preds_of}
