@@ -1,5 +1,5 @@
 -- Tests of the rules on the order and the edges.
-use Rattle.std.proofs.Common.{◌≡◌, ◌≢◌, refl, sym, ap, ◌∙◌, ℕ, ◌<◌, ◌≤◌, ◌==◌, arith, Bool, true, false, true≢false, ◌⊎◌, inl, inr, List, [], ◌∷◌, length, Option, Some, None}
+use Rattle.std.proofs.Common.{◌≡◌, ◌≢◌, refl, sym, ap, ◌∙◌, subst, ℕ, ◌<◌, ◌≤◌, ◌==◌, arith, Bool, true, false, true≢false, ◌⊎◌, inl, inr, List, [], ◌∷◌, length, Option, Some, None}
 use Rattle.std.specs.Prelude.{not, nat_lt, ◌&&◌, ◌||◌, count_by, unwrap_or}
 use Rattle.std.specs.List.{list_all, list_any}
 use Rattle.std.proofs.lemmas.Bool.{ltb-true, lt-ltb}
@@ -7,7 +7,7 @@ use Rattle.firm_rules.specs.declared.node.NodeOp.{NodeOp}
 use Rattle.firm_rules.specs.declared.node.NodeOp.TheVariants.{Start}
 use Rattle.firm_rules.specs.Graphs.{FirmNode, Firm}
 use Rattle.firm_rules.specs.Lookups.{node_at, first_of, rank, IsBlock, preds_of, end_of, targets}
-use Rattle.firm_rules.specs.Rules.{is_phi, is_start, first_node, FirstFits, IsEnteredEarlier, IsEnteredAtHead, EdgesFit}
+use Rattle.firm_rules.specs.Rules.{is_phi, is_start, first_node, FirstFits, OtherFits, IsEnteredAtHead, EdgesFit}
 use Rattle.firm_rules.proofs.Chains.{both_true, first_passes}
 use Rattle.firm_rules.proofs.Testing.{or_else, or_then, equal, equal_is, unequal_is, all_at, any_at, pass, nodes_at, blocks_at, edges_pass, edges_at}
 
@@ -21,7 +21,7 @@ is_false false d = refl
 -- ---- 5
 
 abbrev pub Rule5 : Firm → Type 0
-Rule5 g = FirstFits g × ((b : ℕ) → IsBlock g b → b ≢ first_of g.order → IsEnteredEarlier g b)
+Rule5 g = ((b : ℕ) → IsBlock g b → b ≡ first_of g.order → FirstFits g b) × ((b : ℕ) → IsBlock g b → b ≢ first_of g.order → OtherFits g b)
 
 abbrev pub is_empty : List ℕ → Bool
 is_empty [] = true
@@ -57,49 +57,56 @@ module _ (g : Firm) where
   abbrev pub test_5 : Bool
   test_5 = is_empty (preds_of g first) && (is_some_number start && (pass first_test g.nodes && list_all earlier_test g.order))
 
-  first_fits : is_empty (preds_of g first) ≡ true → is_some_number start ≡ true → pass first_test g.nodes ≡ true → FirstFits g
-  first_fits no_preds some nodes = by start refl some
-    where
-      at : (n : ℕ) (node : FirmNode) → node_at g n ≡ Some node
-          → ((not (node.block == first) || not (is_phi node.op)) ≡ true) × ((not (is_start node.op) || ((node.block == first) && (n == unwrap_or start 0))) ≡ true)
-      at n node is =
-          both_true (not (node.block == first) || not (is_phi node.op)) (not (is_start node.op) || ((node.block == first) && (n == unwrap_or start 0)))
-          (nodes_at g first_test nodes n node is)
+  module _ (nodes : pass first_test g.nodes ≡ true) where
+    at : (n : ℕ) (node : FirmNode) → node_at g n ≡ Some node
+        → ((not (node.block == first) || not (is_phi node.op)) ≡ true) × ((not (is_start node.op) || ((node.block == first) && (n == unwrap_or start 0))) ≡ true)
+    at n node is =
+        both_true (not (node.block == first) || not (is_phi node.op)) (not (is_start node.op) || ((node.block == first) && (n == unwrap_or start 0)))
+        (nodes_at g first_test nodes n node is)
 
-      as_start : (n : ℕ) (node : FirmNode) → node_at g n ≡ Some node → is_start node.op ≡ true → ((node.block == first) ≡ true) × ((n == unwrap_or start 0) ≡ true)
-      as_start n node is op =
-          both_true (node.block == first) (n == unwrap_or start 0)
-          (or_else (is_start node.op) ((node.block == first) && (n == unwrap_or start 0)) op (at n node is).1)
+    as_start : (n : ℕ) (node : FirmNode) → node_at g n ≡ Some node → is_start node.op ≡ true → (node.block ≡ first) × (n ≡ unwrap_or start 0)
+    as_start n node is op =
+        let parts = both_true (node.block == first) (n == unwrap_or start 0)
+        (or_else (is_start node.op) ((node.block == first) && (n == unwrap_or start 0)) op (at n node is).1) in
+        (equal node.block first parts.0, equal n (unwrap_or start 0) parts.1)
 
-      no_phi_by : (b : Bool) → not b ≡ true → b ≡ false
-      no_phi_by true e = absurd (true≢false (sym e))
-      no_phi_by false e = refl
+    first_fits : is_empty (preds_of g first) ≡ true → is_some_number start ≡ true → FirstFits g first
+    first_fits no_preds some = by start refl some
+      where
+        no_phi_by : (b : Bool) → not b ≡ true → b ≡ false
+        no_phi_by true e = absurd (true≢false (sym e))
+        no_phi_by false e = refl
 
-      by : (found : Option ℕ) → start ≡ found → is_some_number found ≡ true → FirstFits g
-      by None is e = absurd (true≢false (sym e))
-      by (Some s) is e =
-          let passes = first_passes g (λ node. is_start node.op) s is in
-          record {
-            no_preds = empty_is (preds_of g first) no_preds;
-            no_phi = λ n node there block. no_phi_by (is_phi node.op)
-                (or_else (node.block == first) (not (is_phi node.op)) (equal_is node.block first block) (at n node there).0);
-            start = s;
-            holds = (passes.node, passes.is, start_is passes.node.op passes.passed, equal passes.node.block first (as_start s passes.node passes.is passes.passed).0);
-            alone = λ n node there op. equal n (unwrap_or start 0) (as_start n node there (ap is_start op)).1 ∙ ap (λ x. unwrap_or x 0) is;
-          }
+        by : (found : Option ℕ) → start ≡ found → is_some_number found ≡ true → FirstFits g first
+        by None is e = absurd (true≢false (sym e))
+        by (Some s) is e =
+            let passes = first_passes g (λ node. is_start node.op) s is in
+            record {
+              no_preds = empty_is (preds_of g first) no_preds;
+              no_phi = λ n node there block. no_phi_by (is_phi node.op)
+                  (or_else (node.block == first) (not (is_phi node.op)) (equal_is node.block first block) (at n node there).0);
+              start = (
+                s,
+                (passes.node, passes.is, start_is passes.node.op passes.passed, (as_start s passes.node passes.is passes.passed).0),
+                λ m other. (as_start m other.0 other.1 (ap is_start other.2)).1 ∙ ap (λ x. unwrap_or x 0) is,
+              );
+            }
 
-  entered_earlier : list_all earlier_test g.order ≡ true → (b : ℕ) → IsBlock g b → b ≢ first → IsEnteredEarlier g b
-  entered_earlier e b is other =
-      let found = any_at (λ q. nat_lt (rank g q) (rank g b)) (preds_of g b)
-      (or_then (b == first) (list_any (λ q. nat_lt (rank g q) (rank g b)) (preds_of g b)) (unequal_is b first other) (blocks_at g earlier_test e b is)) in
-      (found.element, (found.index, found.at), ltb-true (rank g found.element) (rank g b) found.passes)
+    other_fits : list_all earlier_test g.order ≡ true → (b : ℕ) → IsBlock g b → b ≢ first → OtherFits g b
+    other_fits e b is other =
+        let found = any_at (λ q. nat_lt (rank g q) (rank g b)) (preds_of g b)
+        (or_then (b == first) (list_any (λ q. nat_lt (rank g q) (rank g b)) (preds_of g b)) (unequal_is b first other) (blocks_at g earlier_test e b is)) in
+        record {
+          no_start = λ n start_is. other (sym start_is.3 ∙ (as_start n start_is.0 start_is.1 (ap is_start start_is.2)).0);
+          entered_earlier = (found.element, (found.index, found.at), ltb-true (rank g found.element) (rank g b) found.passes);
+        }
 
   pub sound_5 : test_5 ≡ true → Rule5 g
   sound_5 e =
       let one = both_true (is_empty (preds_of g first)) (is_some_number start && (pass first_test g.nodes && list_all earlier_test g.order)) e in
       let two = both_true (is_some_number start) (pass first_test g.nodes && list_all earlier_test g.order) one.1 in
       let three = both_true (pass first_test g.nodes) (list_all earlier_test g.order) two.1 in
-      (first_fits one.0 two.0 three.0, entered_earlier three.1)
+      (λ b is same. subst (FirstFits g) (sym same) (first_fits three.0 one.0 two.0), other_fits three.0 three.1)
 
 -- ---- 6
 

@@ -88,15 +88,23 @@ loop_without_phi rule = omega (arith, (rule 1 (omega arith)).first_takes 2 _ _ 0
 
 only_later_predecessor : Rule5 (in_order (0 ∷ 1 ∷ 2 ∷ [])) → ⊥
 only_later_predecessor rule =
-    let entered = rule.1 1 (omega arith) (λ same. omega (arith, same)) in
+    let entered = (rule.1 1 (omega arith) (λ same. omega (arith, same))).entered_earlier in
     true≢false (sym (all_at (λ q. not (nat_lt (rank (in_order (0 ∷ 1 ∷ 2 ∷ [])) q) 1)) (2 ∷ []) refl entered.1.0 entered.0 entered.1.1)
     ∙ ap not (lt-ltb (rank (in_order (0 ∷ 1 ∷ 2 ∷ [])) entered.0) 1 entered.2))
 
 phi_in_first_block : Rule5 (phi_in 0 []) → ⊥
-phi_in_first_block rule = true≢false (rule.0.no_phi 2 _ refl refl)
+phi_in_first_block rule = true≢false ((rule.0 0 (omega arith) refl).no_phi 2 _ refl refl)
 
-second_start : Rule5 (start_in 1) → ⊥
-second_start rule = let one = rule.0.alone 0 _ refl refl in let other = rule.0.alone 2 _ refl refl in omega (arith, one, other)
+start_in_second_block : Rule5 (start_in 1) → ⊥
+start_in_second_block rule = (rule.1 1 (omega arith) (λ same. omega (arith, same))).no_start 2 (_, refl, refl, refl)
+
+-- a second one in the first block is one too many
+second_start : Rule5 (start_in 0) → ⊥
+second_start rule =
+    let only = (rule.0 0 (omega arith) refl).start.2 in
+    let one = only 0 (_, refl, refl, refl) in
+    let other = only 2 (_, refl, refl, refl) in
+    omega (arith, one, other)
 
 -- ---- 6
 

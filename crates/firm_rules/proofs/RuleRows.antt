@@ -29,11 +29,11 @@ by_tests g facts some e = record {
     no_cycle = sound_3 g a3.0 n;
     operands_defined = (sound_7 g facts b3.0).0 n node is;
   };
-  first = (sound_5 g b1.0).0;
   blocks = λ b is. record {
     end_fits = (sound_1 g a1.0).1 b is;
     memory_fits = sound_4 g facts a3.1 b is;
-    entered_earlier = (sound_5 g b1.0).1 b is;
+    first_fits = (sound_5 g b1.0).0 b is;
+    other_fits = (sound_5 g b1.0).1 b is;
     entered_at_head = sound_6 g b2.0 b is;
     end_defined = (sound_7 g facts b3.0).1 b is;
     edges_fit = sound_8 g b3.1 b is;

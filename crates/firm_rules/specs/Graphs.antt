@@ -74,21 +74,17 @@ acts_by operands = false
 abbrev pub acts : NodeOp → Bool
 acts o = acts_by (operands_of o)
 
+-- all that is not named gives a word
 abbrev pub mode_of : NodeOp → Mode
 mode_of op.Start = Memory
-mode_of (op.Param i) = Word
-mode_of (op.Const n) = Word
-mode_of (op.Addr n) = Word
-mode_of op.Unknown = Word
-mode_of (op.Apply op) = Word
 mode_of (op.Load kind) = Tuple
 mode_of (op.Store kind) = Memory
 mode_of (op.Call f) = Tuple
 mode_of op.Get = Tuple
 mode_of op.Put = Tuple
 mode_of op.ProjM = Memory
-mode_of op.ProjR = Word
 mode_of (op.Phi mode) = mode
+mode_of o = Word
 
 -- an operation that gives the same word wherever its operands have the same
 abbrev pub is_pure : NodeOp → Bool

@@ -138,18 +138,21 @@ pub record MemoryFits (g : Firm) (b : ℕ) : Type 0 where
 -- ---- 5: the first block has no predecessor and no Phi, and alone holds `Start`; each other block has a predecessor earlier in
 -- the order
 
-pub record FirstFits (g : Firm) : Type 0 where
-  pub no_preds : preds_of g (first_of g.order) ≡ []
-  pub no_phi : (n : ℕ) (node : FirmNode) → node_at g n ≡ Some node → node.block ≡ first_of g.order → is_phi node.op ≡ false
-  pub start : ℕ
-  pub holds : (node : FirmNode) × (node_at g start ≡ Some node) × (node.op ≡ Start) × (node.block ≡ first_of g.order)
-  pub alone : (n : ℕ) (node : FirmNode) → node_at g n ≡ Some node → node.op ≡ Start → n ≡ start
+-- the node is a `Start` of the block
+abbrev pub IsStartOf : Firm → ℕ → ℕ → Type 0
+IsStartOf g b n = (node : FirmNode) × (node_at g n ≡ Some node) × (node.op ≡ Start) × (node.block ≡ b)
 
 abbrev pub IsEdge : Firm → ℕ → ℕ → Type 0
 IsEdge g from to = (index : ℕ) × (slice_get (preds_of g to) index ≡ Some from)
 
-abbrev pub IsEnteredEarlier : Firm → ℕ → Type 0
-IsEnteredEarlier g b = (pred : ℕ) × IsEdge g pred b × (rank g pred < rank g b)
+pub record FirstFits (g : Firm) (b : ℕ) : Type 0 where
+  pub no_preds : preds_of g b ≡ []
+  pub no_phi : (n : ℕ) (node : FirmNode) → node_at g n ≡ Some node → node.block ≡ b → is_phi node.op ≡ false
+  pub start : (n : ℕ) × IsStartOf g b n × ((m : ℕ) → IsStartOf g b m → m ≡ n)
+
+pub record OtherFits (g : Firm) (b : ℕ) : Type 0 where
+  pub no_start : (n : ℕ) → IsStartOf g b n → ⊥
+  pub entered_earlier : (pred : ℕ) × IsEdge g pred b × (rank g pred < rank g b)
 
 -- ---- 6: the blocks from the target of an edge back to its source are entered from outside by the target alone
 
@@ -199,7 +202,8 @@ pub record NodeObeys (g : Firm) (n : ℕ) (node : FirmNode) : Type 0 where
 pub record BlockObeys (g : Firm) (b : ℕ) : Type 0 where
   pub end_fits : EndFits g (end_of g b)
   pub memory_fits : MemoryFits g b
-  pub entered_earlier : b ≢ first_of g.order → IsEnteredEarlier g b
+  pub first_fits : b ≡ first_of g.order → FirstFits g b
+  pub other_fits : b ≢ first_of g.order → OtherFits g b
   pub entered_at_head : IsEnteredAtHead g b
   pub end_defined : EndDefined g b
   pub edges_fit : EdgesFit g b
@@ -207,7 +211,6 @@ pub record BlockObeys (g : Firm) (b : ℕ) : Type 0 where
 pub record Obeys (g : Firm) : Type 0 where
   pub some_block : 0 < length g.order
   pub nodes : (n : ℕ) (node : FirmNode) → node_at g n ≡ Some node → NodeObeys g n node
-  pub first : FirstFits g
   pub blocks : (b : ℕ) → IsBlock g b → BlockObeys g b
 
 -- What no rule asks, but holds of a graph that was made by adding blocks and nodes: each block of the order is one, once; a node that is
@@ -229,8 +232,8 @@ pub record IsClosed (p : Program) : Type 0 where
   pub calls : (index : ℕ) (g : Firm) (n : ℕ) (node : FirmNode) → slice_get p.graphs index ≡ Some g → node_at g n ≡ Some node → CallFits p node
   pub few : (index : ℕ) (g : Firm) → slice_get p.graphs index ≡ Some g → g.params ≤ 8
 
--- The operands of a Phi are itself and at most one other value; so it may have none, or itself alone. Braun, Buchwald, Hack, Leißa, Mallon and Zwinkau, Simple and
--- Efficient Construction of Static Single Assignment Form (2013), 2.2.
+-- The operands of a Phi are itself and at most one other value; so it may have none, or itself alone. Braun, Buchwald, Hack, Leißa,
+-- Mallon and Zwinkau, Simple and Efficient Construction of Static Single Assignment Form (2013), 2.2.
 abbrev pub IsTrivial : Firm → ℕ → Type 0
 IsTrivial g n = (node : FirmNode) × (node_at g n ≡ Some node) × (is_phi node.op ≡ true)
     × ((only : ℕ) × ((index operand : ℕ) → slice_get node.operands index ≡ Some operand → (operand ≡ n) ⊎ (operand ≡ only)))
