@@ -2,6 +2,7 @@ mod Made
 mod Rows
 mod Steps
 mod Agreement
+mod Growth
 mod Chains
 mod Stuck
 mod RunLaws

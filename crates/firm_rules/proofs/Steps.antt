@@ -15,7 +15,7 @@ use Rattle.firm_rules.specs.Graphs.{FirmNode, Firm, Program}
 use Rattle.firm_rules.specs.Lookups.{is_later, end_of, node_at}
 use Rattle.firm_rules.specs.Rules.{chain}
 use Rattle.firm_rules.specs.Frames.{Frame, word_at}
-use Rattle.firm_rules.specs.Runs.{came, stuck, no_graph, malformed, Result, gives, stops, Begun, does, enters, accessed, call, call_turn, begun_by, begun_in, begun, after_call, Exit, ends, goes, back, jump, branch, exit_by, exit, Again, in_block, from_block}
+use Rattle.firm_rules.specs.Runs.{came, stuck, no_graph, malformed, Result, gives, stops, store_of, Begun, does, enters, accessed, call, call_turn, begun_by, begun_in, begun, after_call, Exit, ends, goes, back, jump, branch, exit_by, exit, Again, in_block, from_block}
 
 -- ---- the blocks of the order
 
@@ -67,10 +67,9 @@ module _ (p : Program) (w : World) (again : Again p w) (g : Firm) where
 
 -- ---- turns
 
--- as many turns are left
+-- how many turns are left
 abbrev pub turns_of : {A : Type 0} → Result A → ℕ
-turns_of (gives a s) = s.turns
-turns_of (stops outcome s) = s.turns
+turns_of r = (store_of r).turns
 
 -- what a begun node leaves of the turns
 abbrev pub BegunFalls : ℕ → Begun → Type 0

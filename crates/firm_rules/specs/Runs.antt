@@ -42,6 +42,10 @@ pub data Result (A : Type 0) : Type 0 where
   gives : A → Store → Result A
   stops : FirmOutcome → Store → Result A
 
+abbrev pub store_of : {A : Type 0} → Result A → Store
+store_of (gives a s) = s
+store_of (stops outcome s) = s
+
 -- ---- nodes that act
 
 -- what a node begins: it acts at once and gives a word, or it enters a graph with arguments

@@ -1,14 +1,15 @@
 // What holds of all graphs and their runs.
 ghost use Rattle.std.specs.Prelude.{◌≡◌, ◌⊎◌, ℕ, suc, ◌+◌, ◌≤◌, ◌==◌, true, List, length, Option, Some, slice_get};
 ghost use Rattle.cp_base.specs.declared.layout.Layout.{Layout};
-ghost use Rattle.run_model.specs.Stores.{World, Store};
+ghost use Rattle.run_model.specs.Stores.{World, Store, IsPrefix};
+ghost use Rattle.run_model.specs.declared.outcome.Outcome.TheVariants.{Running};
 ghost use Rattle.ssa_core.specs.Walks.{Walk, end, IsWalk, along};
 ghost use Rattle.firm_rules.specs.declared.node.NodeId.{NodeId};
 ghost use Rattle.firm_rules.specs.Graphs.{FirmNode, Firm, Program};
 ghost use Rattle.firm_rules.specs.Lookups.{node_at, first_of, IsBlock, shape};
 ghost use Rattle.firm_rules.specs.Rules.{acts_in, takes_from, chain, Obeys, IsClosed};
 ghost use Rattle.firm_rules.specs.Frames.{Frame, first_frame, word_by, word_within, word_at};
-ghost use Rattle.firm_rules.specs.Runs.{Cause, no_main, no_status, bad_access, no_value, stuck, Result, Runs, run, FirmRan, firm_run, RunsProgram};
+ghost use Rattle.firm_rules.specs.Runs.{Cause, no_main, no_status, bad_access, no_value, came, stuck, Result, stops, store_of, Runs, run, FirmRan, firm_run, RunsProgram};
 ghost use Rattle.firm_rules.specs.Visits.{History, with_visit, word_on, Comes};
 
 /// The run as a function gives what the run as a relation says, where the bound of the turns is not below those that are
@@ -34,6 +35,19 @@ pub fn run_is_determined()
         → Runs p w g b nodes f s r
         → Runs p w g b nodes f s q
         → r ≡ q }
+{}
+
+/// The output only grows, the turns left only fall, and a run is cut off only where none is left.
+pub fn run_grows()
+    ensures output { (p : Program) (w : World) (g : Firm) (b : ℕ) (nodes : List ℕ) (f : Frame) (s : Store) (r : Result (Option ℕ))
+        → Runs p w g b nodes f s r
+        → IsPrefix s.out (store_of r).out }
+    ensures turns { (p : Program) (w : World) (g : Firm) (b : ℕ) (nodes : List ℕ) (f : Frame) (s : Store) (r : Result (Option ℕ))
+        → Runs p w g b nodes f s r
+        → (store_of r).turns ≤ s.turns }
+    ensures cut_off { (p : Program) (w : World) (g : Firm) (b : ℕ) (nodes : List ℕ) (f : Frame) (s t : Store)
+        → Runs p w g b nodes f s (stops (came Running) t)
+        → t.turns ≡ 0 }
 {}
 
 /// A closed program of graphs that obey the rules is stuck only where it has no proper `main`, where `main` gives no value, at
