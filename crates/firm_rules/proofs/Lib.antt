@@ -13,6 +13,7 @@ mod Points
 mod Edges
 mod Words
 mod Order
+mod Trivial
 mod Testing
 mod Deciding
 mod DecidingOrder
