@@ -14,6 +14,7 @@ mod Edges
 mod Words
 mod Order
 mod Trivial
+mod Replacing
 mod Testing
 mod Deciding
 mod DecidingOrder

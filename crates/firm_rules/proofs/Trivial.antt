@@ -66,13 +66,14 @@ module _ (g : Firm) (obeys : Obeys g) (n : ℕ) (node : FirmNode) (is : node_at 
     walk : IsWalk (shape g) earlier
     shorter : length earlier < length w
     visits : Visits (shape g) earlier value_block
+    on_walk : Visits (shape g) w value_block
 
   before : (w : Walk) → IsWalk (shape g) w → Visits (shape g) w node.block → Before w
   before [] walk at = absurd (not_first at)
   before (e ∷ w) walk visits = by visits (λ at. before w walk.1 at)
     where
       longer : Before w → Before (e ∷ w)
-      longer b = record { earlier = b.earlier; walk = b.walk; shorter = omega (arith, b.shorter); visits = b.visits }
+      longer b = record { earlier = b.earlier; walk = b.walk; shorter = omega (arith, b.shorter); visits = b.visits; on_walk = inr b.on_walk }
 
       by : (e.into ≡ node.block) ⊎ Visits (shape g) w node.block → (Visits (shape g) w node.block → Before w) → Before (e ∷ w)
       by (inr at) earlier = longer (earlier at)
@@ -86,12 +87,13 @@ module _ (g : Firm) (obeys : Obeys g) (n : ℕ) (node : FirmNode) (is : node_at 
 
           here : (found.operand ≡ n) ⊎ (found.operand ≡ v) → Before (e ∷ w)
           here (inl itself) = longer (earlier (subst (Visits (shape g) w) (ap (λ x. (shape g).block (node_id x)) itself ∙ block_at g n node is) at_operand))
-          here (inr value) = record {
-            earlier = w;
-            walk = walk.1;
-            shorter = omega arith;
-            visits = subst (λ x. Visits (shape g) w ((shape g).block (node_id x))) value at_operand;
-          }
+          here (inr value) =
+              let at_value = subst (λ x. Visits (shape g) w ((shape g).block (node_id x))) value at_operand in
+              record { earlier = w; walk = walk.1; shorter = omega arith; visits = at_value; on_walk = inr at_value }
+
+  -- so where the Phi's block has been passed, so has the value's
+  pub passed_value : (w : Walk) → IsWalk (shape g) w → Visits (shape g) w node.block → Visits (shape g) w value_block
+  passed_value w walk at = (before w walk at).on_walk
 
   -- the walk up to its last visit of a block
   record UpTo (w : Walk) (b : ℕ) : Type 0 where
