@@ -15,6 +15,10 @@ mod Words
 mod Order
 mod Trivial
 mod Replacing
+mod Simulation
+mod Renamed
+mod RenamedChains
+mod RenamedRuns
 mod Testing
 mod Deciding
 mod DecidingOrder

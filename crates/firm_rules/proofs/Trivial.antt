@@ -96,18 +96,24 @@ module _ (g : Firm) (obeys : Obeys g) (n : ℕ) (node : FirmNode) (is : node_at 
   passed_value w walk at = (before w walk at).on_walk
 
   -- the walk up to its last visit of a block
-  record UpTo (w : Walk) (b : ℕ) : Type 0 where
-    part : Walk
-    comes : ComesTo g part b
-    no_longer : length part ≤ length w
+  pub record UpTo (w : Walk) (b : ℕ) : Type 0 where
+    pub part : Walk
+    pub comes : ComesTo g part b
+    pub no_longer : length part ≤ length w
+    pub on_walk : (d : ℕ) → Visits (shape g) part d → Visits (shape g) w d
 
-  up_to : (w : Walk) (b : ℕ) → IsWalk (shape g) w → Visits (shape g) w b → UpTo w b
-  up_to [] b walk at = record { part = []; comes = (walk, at); no_longer = le_refl 0 }
+  pub up_to : (w : Walk) (b : ℕ) → IsWalk (shape g) w → Visits (shape g) w b → UpTo w b
+  up_to [] b walk at = record { part = []; comes = (walk, at); no_longer = le_refl 0; on_walk = λ d visit. visit }
   up_to (e ∷ w) b walk visits = by visits (λ at. up_to w b walk.1 at)
     where
       by : (e.into ≡ b) ⊎ Visits (shape g) w b → (Visits (shape g) w b → UpTo w b) → UpTo (e ∷ w) b
-      by (inl at) earlier = record { part = e ∷ w; comes = (walk, at); no_longer = le_refl (suc (length w)) }
-      by (inr at) earlier = let rest = earlier at in record { part = rest.part; comes = rest.comes; no_longer = omega (arith, rest.no_longer) }
+      by (inl at) earlier = record { part = e ∷ w; comes = (walk, at); no_longer = le_refl (suc (length w)); on_walk = λ d visit. visit }
+      by (inr at) earlier = let rest = earlier at in record {
+        part = rest.part;
+        comes = rest.comes;
+        no_longer = omega (arith, rest.no_longer);
+        on_walk = λ d visit. inr (rest.on_walk d visit);
+      }
 
   -- so where each walk to the value's block passes the Phi's, there is none
   no_walk : (k : ℕ) (w : Walk) → length w < k → Passed value_block → ComesTo g w value_block → ⊥
@@ -116,6 +122,17 @@ module _ (g : Firm) (obeys : Obeys g) (n : ℕ) (node : FirmNode) (is : node_at 
       let earlier = before w comes.0 (passed w comes) in
       let part = up_to earlier.earlier value_block earlier.walk earlier.visits in
       no_walk k part.part (omega (arith, less, earlier.shorter, part.no_longer)) passed part.comes
+
+  -- the value does not stand where a walk ends to which each passes the Phi's block
+  pub value_away : (w : Walk) → IsWalk (shape g) w → Passed (end (shape g) w) → value_block ≡ end (shape g) w → ⊥
+  value_away w walk passed same = no_walk (suc (length w)) w (le_refl (suc (length w))) (subst Passed (sym same) passed) (walk, sym same)
+
+  -- and there is a walk to the value's block
+  pub value_walk : (w : Walk) → IsWalk (shape g) w → Visits (shape g) w node.block → (u : Walk) × ComesTo g u value_block
+  value_walk w walk at = let part = up_to w value_block walk (passed_value w walk at) in (part.part, part.comes)
+
+  pub no_walk_to_value : (u : Walk) → ComesTo g u value_block → Passed value_block → ⊥
+  no_walk_to_value u comes passed = no_walk (suc (length u)) u (le_refl (suc (length u))) passed comes
 
   -- ---- the Phi means what the value means
 
