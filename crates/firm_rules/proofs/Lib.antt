@@ -19,6 +19,9 @@ mod Simulation
 mod Renamed
 mod RenamedChains
 mod RenamedRuns
+mod RenamedRules
+mod RenamedMemory
+mod RenamedObeys
 mod Testing
 mod Deciding
 mod DecidingOrder

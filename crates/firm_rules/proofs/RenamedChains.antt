@@ -20,7 +20,7 @@ use Rattle.firm_rules.proofs.Renamed.{renamed, renamed_old, renamed_other, Alike
 
 -- ---- the first node that passes a test
 
-abbrev node_passes : (FirmNode → Bool) → Option FirmNode → Bool
+abbrev pub node_passes : (FirmNode → Bool) → Option FirmNode → Bool
 node_passes t (Some x) = t x
 node_passes t None = false
 
@@ -46,7 +46,7 @@ position_same t u (x ∷ xs) (y ∷ ys) size same =
     ap (λ b. cond (not b) (1 + position_or_len (λ z. z.there && u z) ys) 0) (same 0)
     ∙ ap (λ n. cond (not (x.there && t x)) (1 + n) 0) (position_same t u xs ys (omega (arith, size)) (λ m. same (suc m)))
 
-first_same : (g h : Firm) (t u : FirmNode → Bool) → length h.nodes ≡ length g.nodes → ((m : ℕ) → node_passes u (node_at h m) ≡ node_passes t (node_at g m))
+pub first_same : (g h : Firm) (t u : FirmNode → Bool) → length h.nodes ≡ length g.nodes → ((m : ℕ) → node_passes u (node_at h m) ≡ node_passes t (node_at g m))
     → first_node h u ≡ first_node g t
 first_same g h t u size same =
     let places = position_same t u g.nodes h.nodes size (λ m. passes_is u (slice_get h.nodes m) ∙ same m ∙ sym (passes_is t (slice_get g.nodes m))) in
@@ -64,7 +64,7 @@ module _ (g : Firm) (obeys : Obeys g) (old : ℕ) (node : FirmNode) (is : node_a
       by (Phi mode) e fit same = fit.0 (same_some mode Tuple same)
       by o e fit same = true≢false (sym e)
 
-  tuple_of : (m : ℕ) (x : FirmNode) (t : ℕ) (rest : List ℕ) → node_at g m ≡ Some x → (x.op ≡ ProjM) ⊎ (x.op ≡ ProjR) → x.operands ≡ t ∷ rest → t ≢ old
+  pub tuple_of : (m : ℕ) (x : FirmNode) (t : ℕ) (rest : List ℕ) → node_at g m ≡ Some x → (x.op ≡ ProjM) ⊎ (x.op ≡ ProjR) → x.operands ≡ t ∷ rest → t ≢ old
   tuple_of m x t rest there op operands same = old_is_no_tuple (subst (λ y. mode_at g y ≡ Some Tuple) same (by op))
     where
       first_of_modes : List (Option Mode) → Option Mode
@@ -87,7 +87,7 @@ module _ (g : Firm) (obeys : Obeys g) (old : ℕ) (node : FirmNode) (is : node_a
   giver_by_same ProjM [] m tuple = refl
   giver_by_same o operands m tuple = refl
 
-  giver_same : (m : ℕ) → m ≢ old → giver h m ≡ giver g m
+  pub giver_same : (m : ℕ) → m ≢ old → giver h m ≡ giver g m
   giver_same m d = by (node_at g m) (node_at h m) refl (r.nodes m d)
     where
       by : (one two : Option FirmNode) → node_at g m ≡ one → Alike old to one two → giver_in two m ≡ giver_in one m
@@ -98,7 +98,7 @@ module _ (g : Firm) (obeys : Obeys g) (old : ℕ) (node : FirmNode) (is : node_a
           ap (λ o. giver_by o y.operands m) alike_nodes.0 ∙ ap (λ xs. giver_by x.op xs m) alike_nodes.1.1
           ∙ giver_by_same x.op x.operands m (λ t rest o operands. tuple_of m x t rest e (inl o) operands)
 
-  phi_gives : giver g old ≡ old
+  pub phi_gives : giver g old ≡ old
   phi_gives = ap (λ found. giver_in found old) is ∙ by node.op node.operands phi_op
     where
       by : (o : NodeOp) (operands : List ℕ) → is_phi o ≡ true → giver_by o operands old ≡ old
@@ -119,7 +119,7 @@ module _ (g : Firm) (obeys : Obeys g) (old : ℕ) (node : FirmNode) (is : node_a
       by : (o : NodeOp) → is_phi o ≡ true → (t : Bool) → (t && acts o) ≡ false
       by o e t = ap (λ y. t && y) (no_acts o e) ∙ and_false t
 
-  acts_same : (b m : ℕ) → acts_in b (node_at h m) ≡ acts_in b (node_at g m)
+  pub acts_same : (b m : ℕ) → acts_in b (node_at h m) ≡ acts_in b (node_at g m)
   acts_same b m = by (test m old)
     where
       by : Test m old → acts_in b (node_at h m) ≡ acts_in b (node_at g m)

@@ -36,12 +36,12 @@ module _ (g : Firm) (obeys : Obeys g) (n : ℕ) (node : FirmNode) (is : node_at 
       true≢false (sym phi_op ∙ (((obeys.blocks (first_of g.order) (first_is_block g obeys.some_block)).first_fits refl).no_phi n node is (sym same)))
 
   -- where the Phi's block is entered by an edge, the operand for the edge is defined before
-  record Operand (e : Edge) (w : Walk) : Type 0 where
-    operand : ℕ
-    at : slice_get node.operands e.place ≡ Some operand
-    defined : IsDefined g operand (end (shape g) w)
+  pub record Operand (e : Edge) (w : Walk) : Type 0 where
+    pub operand : ℕ
+    pub at : slice_get node.operands e.place ≡ Some operand
+    pub defined : IsDefined g operand (end (shape g) w)
 
-  operand_of : (e : Edge) (w : Walk) → IsWalk (shape g) (e ∷ w) → e.into ≡ node.block → Operand e w
+  pub operand_of : (e : Edge) (w : Walk) → IsWalk (shape g) (e ∷ w) → e.into ≡ node.block → Operand e w
   operand_of e w walk into =
       let pred = subst (λ b. slice_get (preds_of g b) e.place ≡ Some (end (shape g) w)) into walk.0 in
       let found = same_length_at node.operands (preds_of g node.block) e.place (end (shape g) w) ((obeys.nodes n node is).phi_is_full phi_op) pred in
