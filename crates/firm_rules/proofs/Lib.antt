@@ -14,6 +14,14 @@ mod Edges
 mod Words
 mod Order
 mod Trivial
+mod Replacing
+mod Simulation
+mod Renamed
+mod RenamedChains
+mod RenamedRuns
+mod RenamedRules
+mod RenamedMemory
+mod RenamedObeys
 mod Testing
 mod Deciding
 mod DecidingOrder

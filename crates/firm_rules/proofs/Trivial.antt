@@ -36,12 +36,12 @@ module _ (g : Firm) (obeys : Obeys g) (n : ℕ) (node : FirmNode) (is : node_at 
       true≢false (sym phi_op ∙ (((obeys.blocks (first_of g.order) (first_is_block g obeys.some_block)).first_fits refl).no_phi n node is (sym same)))
 
   -- where the Phi's block is entered by an edge, the operand for the edge is defined before
-  record Operand (e : Edge) (w : Walk) : Type 0 where
-    operand : ℕ
-    at : slice_get node.operands e.place ≡ Some operand
-    defined : IsDefined g operand (end (shape g) w)
+  pub record Operand (e : Edge) (w : Walk) : Type 0 where
+    pub operand : ℕ
+    pub at : slice_get node.operands e.place ≡ Some operand
+    pub defined : IsDefined g operand (end (shape g) w)
 
-  operand_of : (e : Edge) (w : Walk) → IsWalk (shape g) (e ∷ w) → e.into ≡ node.block → Operand e w
+  pub operand_of : (e : Edge) (w : Walk) → IsWalk (shape g) (e ∷ w) → e.into ≡ node.block → Operand e w
   operand_of e w walk into =
       let pred = subst (λ b. slice_get (preds_of g b) e.place ≡ Some (end (shape g) w)) into walk.0 in
       let found = same_length_at node.operands (preds_of g node.block) e.place (end (shape g) w) ((obeys.nodes n node is).phi_is_full phi_op) pred in
@@ -66,13 +66,14 @@ module _ (g : Firm) (obeys : Obeys g) (n : ℕ) (node : FirmNode) (is : node_at 
     walk : IsWalk (shape g) earlier
     shorter : length earlier < length w
     visits : Visits (shape g) earlier value_block
+    on_walk : Visits (shape g) w value_block
 
   before : (w : Walk) → IsWalk (shape g) w → Visits (shape g) w node.block → Before w
   before [] walk at = absurd (not_first at)
   before (e ∷ w) walk visits = by visits (λ at. before w walk.1 at)
     where
       longer : Before w → Before (e ∷ w)
-      longer b = record { earlier = b.earlier; walk = b.walk; shorter = omega (arith, b.shorter); visits = b.visits }
+      longer b = record { earlier = b.earlier; walk = b.walk; shorter = omega (arith, b.shorter); visits = b.visits; on_walk = inr b.on_walk }
 
       by : (e.into ≡ node.block) ⊎ Visits (shape g) w node.block → (Visits (shape g) w node.block → Before w) → Before (e ∷ w)
       by (inr at) earlier = longer (earlier at)
@@ -86,26 +87,33 @@ module _ (g : Firm) (obeys : Obeys g) (n : ℕ) (node : FirmNode) (is : node_at 
 
           here : (found.operand ≡ n) ⊎ (found.operand ≡ v) → Before (e ∷ w)
           here (inl itself) = longer (earlier (subst (Visits (shape g) w) (ap (λ x. (shape g).block (node_id x)) itself ∙ block_at g n node is) at_operand))
-          here (inr value) = record {
-            earlier = w;
-            walk = walk.1;
-            shorter = omega arith;
-            visits = subst (λ x. Visits (shape g) w ((shape g).block (node_id x))) value at_operand;
-          }
+          here (inr value) =
+              let at_value = subst (λ x. Visits (shape g) w ((shape g).block (node_id x))) value at_operand in
+              record { earlier = w; walk = walk.1; shorter = omega arith; visits = at_value; on_walk = inr at_value }
+
+  -- so where the Phi's block has been passed, so has the value's
+  pub passed_value : (w : Walk) → IsWalk (shape g) w → Visits (shape g) w node.block → Visits (shape g) w value_block
+  passed_value w walk at = (before w walk at).on_walk
 
   -- the walk up to its last visit of a block
-  record UpTo (w : Walk) (b : ℕ) : Type 0 where
-    part : Walk
-    comes : ComesTo g part b
-    no_longer : length part ≤ length w
+  pub record UpTo (w : Walk) (b : ℕ) : Type 0 where
+    pub part : Walk
+    pub comes : ComesTo g part b
+    pub no_longer : length part ≤ length w
+    pub on_walk : (d : ℕ) → Visits (shape g) part d → Visits (shape g) w d
 
-  up_to : (w : Walk) (b : ℕ) → IsWalk (shape g) w → Visits (shape g) w b → UpTo w b
-  up_to [] b walk at = record { part = []; comes = (walk, at); no_longer = le_refl 0 }
+  pub up_to : (w : Walk) (b : ℕ) → IsWalk (shape g) w → Visits (shape g) w b → UpTo w b
+  up_to [] b walk at = record { part = []; comes = (walk, at); no_longer = le_refl 0; on_walk = λ d visit. visit }
   up_to (e ∷ w) b walk visits = by visits (λ at. up_to w b walk.1 at)
     where
       by : (e.into ≡ b) ⊎ Visits (shape g) w b → (Visits (shape g) w b → UpTo w b) → UpTo (e ∷ w) b
-      by (inl at) earlier = record { part = e ∷ w; comes = (walk, at); no_longer = le_refl (suc (length w)) }
-      by (inr at) earlier = let rest = earlier at in record { part = rest.part; comes = rest.comes; no_longer = omega (arith, rest.no_longer) }
+      by (inl at) earlier = record { part = e ∷ w; comes = (walk, at); no_longer = le_refl (suc (length w)); on_walk = λ d visit. visit }
+      by (inr at) earlier = let rest = earlier at in record {
+        part = rest.part;
+        comes = rest.comes;
+        no_longer = omega (arith, rest.no_longer);
+        on_walk = λ d visit. inr (rest.on_walk d visit);
+      }
 
   -- so where each walk to the value's block passes the Phi's, there is none
   no_walk : (k : ℕ) (w : Walk) → length w < k → Passed value_block → ComesTo g w value_block → ⊥
@@ -114,6 +122,17 @@ module _ (g : Firm) (obeys : Obeys g) (n : ℕ) (node : FirmNode) (is : node_at 
       let earlier = before w comes.0 (passed w comes) in
       let part = up_to earlier.earlier value_block earlier.walk earlier.visits in
       no_walk k part.part (omega (arith, less, earlier.shorter, part.no_longer)) passed part.comes
+
+  -- the value does not stand where a walk ends to which each passes the Phi's block
+  pub value_away : (w : Walk) → IsWalk (shape g) w → Passed (end (shape g) w) → value_block ≡ end (shape g) w → ⊥
+  value_away w walk passed same = no_walk (suc (length w)) w (le_refl (suc (length w))) (subst Passed (sym same) passed) (walk, sym same)
+
+  -- and there is a walk to the value's block
+  pub value_walk : (w : Walk) → IsWalk (shape g) w → Visits (shape g) w node.block → (u : Walk) × ComesTo g u value_block
+  value_walk w walk at = let part = up_to w value_block walk (passed_value w walk at) in (part.part, part.comes)
+
+  pub no_walk_to_value : (u : Walk) → ComesTo g u value_block → Passed value_block → ⊥
+  no_walk_to_value u comes passed = no_walk (suc (length u)) u (le_refl (suc (length u))) passed comes
 
   -- ---- the Phi means what the value means
 

@@ -17,7 +17,8 @@ pub record FirmNode : Type 0 where
   pub there : Bool
   pub current : ℕ
 
--- A block with its predecessors in order, and its end, if it has one. A sealed block gets no further predecessor.
+-- A block with its predecessors in order, and its end, if it has one. It is sealed where its maker has said that all its
+-- predecessors have come.
 pub record FirmBlock : Type 0 where
   pub preds : List ℕ
   pub end : Option FirmEnd
@@ -86,7 +87,7 @@ mode_of op.ProjM = Memory
 mode_of (op.Phi mode) = mode
 mode_of o = Word
 
--- an operation that gives the same word wherever its operands have the same
+-- an operation that, within one call of a graph, gives the same word wherever its operands have the same
 abbrev pub is_pure : NodeOp → Bool
 is_pure (op.Param i) = true
 is_pure (op.Const n) = true

@@ -1,13 +1,14 @@
 // What holds of all graphs and their runs.
-ghost use Rattle.std.specs.Prelude.{◌≡◌, ◌⊎◌, ℕ, suc, ◌+◌, ◌≤◌, ◌==◌, true, List, length, Option, Some, slice_get};
+ghost use Rattle.std.specs.Prelude.{◌≡◌, ◌≢◌, ◌⊎◌, ℕ, suc, ◌+◌, ◌≤◌, ◌==◌, true, List, length, Option, Some, slice_get};
 ghost use Rattle.cp_base.specs.declared.layout.Layout.{Layout};
 ghost use Rattle.run_model.specs.Stores.{World, Store, IsPrefix};
 ghost use Rattle.run_model.specs.declared.outcome.Outcome.TheVariants.{Running};
-ghost use Rattle.ssa_core.specs.Walks.{Walk, end, IsWalk, along};
+ghost use Rattle.ssa_core.specs.Shapes.{Shape, Becomes, IsReplaced};
+ghost use Rattle.ssa_core.specs.Walks.{Walk, end, IsWalk, Visits, along};
 ghost use Rattle.firm_rules.specs.declared.node.NodeId.{NodeId};
 ghost use Rattle.firm_rules.specs.Graphs.{FirmNode, Firm, Program};
-ghost use Rattle.firm_rules.specs.Lookups.{node_at, first_of, IsBlock, shape};
-ghost use Rattle.firm_rules.specs.Rules.{acts_in, takes_from, chain, Obeys, IsClosed};
+ghost use Rattle.firm_rules.specs.Lookups.{node_at, node_id, first_of, IsBlock, shape};
+ghost use Rattle.firm_rules.specs.Rules.{is_phi, acts_in, takes_from, chain, ComesTo, Obeys, IsClosed};
 ghost use Rattle.firm_rules.specs.Frames.{Frame, first_frame, word_by, word_within, word_at};
 ghost use Rattle.firm_rules.specs.Runs.{Cause, no_main, no_status, bad_access, no_value, came, stuck, Result, stops, store_of, Runs, run, FirmRan, firm_run, RunsProgram};
 ghost use Rattle.firm_rules.specs.Visits.{History, with_visit, word_on, Comes};
@@ -109,4 +110,37 @@ pub fn words_agree()
         → Comes p w g arguments start walk nodes f h s
         → Runs p w g (end (shape g) walk) nodes f s r
         → Runs p w g (first_of g.order) (chain g (first_of g.order)) (first_frame arguments) start r }
+{}
+
+/// Of a graph that obeys the rules: where each walk to a block passes the block of a trivial Phi, the Phi means what its other
+/// value means on each of these walks, and has the same word there. Where the other value is put in its place, what stands for a
+/// value means the same on each walk to a block to which each walk passes the value's block.
+pub fn trivial_phi()
+    ensures means { (g : Firm) (n other : ℕ) (node : FirmNode) (walk : Walk)
+        → Obeys g
+        → node_at g n ≡ Some node
+        → is_phi node.op ≡ true
+        → ((index operand : ℕ) → slice_get node.operands index ≡ Some operand → (operand ≡ n) ⊎ (operand ≡ other))
+        → IsWalk (shape g) walk
+        → ((w : Walk) → ComesTo g w (end (shape g) walk) → Visits (shape g) w node.block)
+        → along (shape g) walk (node_id n) ≡ along (shape g) walk (node_id other) }
+    ensures words { (p : Program) (w : World) (g : Firm) (arguments : List ℕ) (start : Store) (walk : Walk) (nodes : List ℕ) (f : Frame) (h : History) (s : Store) (n other : ℕ) (node : FirmNode)
+        → Obeys g
+        → node_at g n ≡ Some node
+        → is_phi node.op ≡ true
+        → ((index operand : ℕ) → slice_get node.operands index ≡ Some operand → (operand ≡ n) ⊎ (operand ≡ other))
+        → Comes p w g arguments start walk nodes f h s
+        → ((u : Walk) → ComesTo g u (end (shape g) walk) → Visits (shape g) u node.block)
+        → word_at w.base g (end (shape g) walk) f n ≡ word_at w.base g (end (shape g) walk) f other }
+    ensures replaced { (g : Firm) (n other : ℕ) (node : FirmNode) (t : Shape NodeId) (walk : Walk) (x y : NodeId)
+        → Obeys g
+        → node_at g n ≡ Some node
+        → is_phi node.op ≡ true
+        → ((index operand : ℕ) → slice_get node.operands index ≡ Some operand → (operand ≡ n) ⊎ (operand ≡ other))
+        → other ≢ n
+        → IsReplaced (shape g) t (node_id n) (node_id other)
+        → IsWalk (shape g) walk
+        → Becomes (node_id n) (node_id other) x y
+        → ((w : Walk) → ComesTo g w (end (shape g) walk) → Visits (shape g) w ((shape g).block x))
+        → along t walk y ≡ along (shape g) walk x }
 {}

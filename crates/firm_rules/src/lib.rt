@@ -16,7 +16,7 @@
 // The theorem: the run is determined, and the relation and the function agree (`run_is_determined`, `run_agrees`). A closed
 // program of graphs that obey the rules is stuck only at an access, at a value that is wanted and not given, or where there is no
 // proper `main` (`stuck_where`). Each node has the word of its operation (`words_are_of_operations`), and each node of a block
-// that takes memory acts once, in order (`chain_is_in_order`).
+// that takes memory acts once, in order (`chain_is_in_order`). A trivial Phi means what its other value means (`trivial_phi`).
 //
 // Source: Braun, Buchwald and Zwinkau, Firm: A Graph-Based Intermediate Representation (2011). A run over a number of turns is as
 // in Owens, Myreen, Kumar and Tan, Functional Big-Step Semantics (2016). Rules 5 and 6, on the order of blocks, are this project's.
@@ -26,7 +26,7 @@ mod laws;
 mod node;
 
 pub use laws::{
-    chain_is_in_order, run_agrees, run_grows, run_is_determined, stuck_where, words_agree,
-    words_are_of_operations,
+    chain_is_in_order, run_agrees, run_grows, run_is_determined, stuck_where, trivial_phi,
+    words_agree, words_are_of_operations,
 };
 pub use node::{BlockId, FirmEnd, Mode, NodeId, NodeOp};
