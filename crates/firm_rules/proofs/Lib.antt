@@ -22,6 +22,7 @@ mod RenamedRuns
 mod RenamedRules
 mod RenamedMemory
 mod RenamedObeys
+mod ReplacingRows
 mod Testing
 mod Deciding
 mod DecidingOrder

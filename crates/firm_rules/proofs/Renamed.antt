@@ -1,28 +1,23 @@
 -- A graph in which a trivial Phi was replaced by its other value: what stands where, and the words at a point, beside those of the
 -- graph before.
 use Rattle.std.proofs.Common.{◌≡◌, ◌≢◌, refl, sym, ap, ◌∙◌, subst, ℕ, zero, suc, ◌==◌, ◌⊎◌, Bool, true, false, true≢false, List, [], ◌∷◌, length, Option, Some, None}
-use Rattle.std.specs.Prelude.{slice_get, map, option_map, unwrap_or, if◌then◌else◌, MatchBool}
+use Rattle.std.specs.Prelude.{slice_get, map, unwrap_or, if◌then◌else◌, MatchBool}
 use Rattle.run_model.specs.Stores.{World, Store}
 use Rattle.ssa_core.specs.Walks.{Walk, end, IsWalk, Visits}
 use Rattle.cp_base.specs.Operations.{applied}
-use Rattle.firm_rules.specs.declared.node.NodeId.{NodeId}
 use Rattle.firm_rules.specs.declared.node.NodeOp.{NodeOp}
 use Rattle.firm_rules.specs.declared.node.NodeOp.TheVariants.{Param, Const, Addr, Unknown, Apply, ProjR, Phi}
-use Rattle.firm_rules.specs.declared.node.FirmEnd.{FirmEnd}
-use Rattle.firm_rules.specs.declared.node.FirmEnd.TheVariants.{Jump, Branch, Return}
 use Rattle.firm_rules.specs.Graphs.{FirmNode, Firm, Program}
-use Rattle.firm_rules.specs.Lookups.{node_at, node_id, preds_of, end_of, shape}
+use Rattle.firm_rules.specs.Lookups.{node_at, node_id, preds_of, shape}
 use Rattle.firm_rules.specs.Rules.{is_phi, IsDefined, Obeys}
 use Rattle.firm_rules.specs.Frames.{Frame, word_by, word_in, word_within, word_at}
+use Rattle.firm_rules.specs.Replacing.{renamed, Alike, IsRenamed}
 use Rattle.firm_rules.specs.Visits.{History, with_visit, word_on, Comes}
 use Rattle.firm_rules.proofs.Steps.{Test, alike, apart, test}
 use Rattle.firm_rules.proofs.Nodes.{same_some, block_at}
 use Rattle.firm_rules.proofs.Edges.{is_walk}
 use Rattle.firm_rules.proofs.Points.{words_agree}
 use Rattle.firm_rules.proofs.Trivial.{Passed, same_meaning, value_away}
-
-abbrev pub renamed : ℕ → ℕ → ℕ → ℕ
-renamed old to x = if x == old then to else x
 
 pub renamed_old : (old to : ℕ) → renamed old to old ≡ to
 renamed_old old to = by (test old old)
@@ -37,31 +32,6 @@ renamed_other old to x d = by (test x old)
     by : Test x old → renamed old to x ≡ x
     by (alike same _) = absurd (d same)
     by (apart _ t) = ap (λ b. if b then to else x) t
-
-abbrev pub renamed_id : ℕ → ℕ → NodeId → NodeId
-renamed_id old to id = record { number = renamed old to id.number }
-
-abbrev pub renamed_end : ℕ → ℕ → FirmEnd → FirmEnd
-renamed_end old to (Jump target) = Jump target
-renamed_end old to (Branch n first second) = Branch (renamed_id old to n) first second
-renamed_end old to (Return memory value) = Return (renamed_id old to memory) (option_map (renamed_id old to) value)
-
--- the node is the same but that its operands are renamed
-abbrev pub Alike : ℕ → ℕ → Option FirmNode → Option FirmNode → Type 0
-Alike old to None None = Unit {0}
-Alike old to (Some x) (Some y) = (y.op ≡ x.op) × ((y.block ≡ x.block) × (y.operands ≡ map (renamed old to) x.operands))
-Alike old to one two = ⊥
-
--- `to` was put in the place of `old` in the graph
-pub record IsRenamed (g h : Firm) (old to : ℕ) : Type 0 where
-  pub name : h.name ≡ g.name
-  pub params : h.params ≡ g.params
-  pub order : h.order ≡ g.order
-  pub preds : (b : ℕ) → preds_of h b ≡ preds_of g b
-  pub ends : (b : ℕ) → end_of h b ≡ option_map (renamed_end old to) (end_of g b)
-  pub size : length h.nodes ≡ length g.nodes
-  pub gone : node_at h old ≡ None
-  pub nodes : (m : ℕ) → m ≢ old → Alike old to (node_at g m) (node_at h m)
 
 -- words of operands and of renamed ones
 renamed_by : (base : ℕ) (f k : Frame) (one other : ℕ → ℕ) (old to : ℕ) (o : NodeOp) (operands : List ℕ) (n : ℕ)

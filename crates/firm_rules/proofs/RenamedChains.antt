@@ -16,7 +16,8 @@ use Rattle.firm_rules.proofs.Chains.{both_true, first_passes}
 use Rattle.firm_rules.proofs.Nodes.{none_is_not_some, same_some, block_at}
 use Rattle.firm_rules.proofs.Testing.{equal, unequal_is}
 use Rattle.firm_rules.proofs.Trivial.{Passed, value_away, value_walk, no_walk_to_value, up_to}
-use Rattle.firm_rules.proofs.Renamed.{renamed, renamed_old, renamed_other, Alike, IsRenamed}
+use Rattle.firm_rules.specs.Replacing.{renamed, Alike, IsRenamed}
+use Rattle.firm_rules.proofs.Renamed.{renamed_old, renamed_other}
 
 -- ---- the first node that passes a test
 

@@ -15,7 +15,8 @@ use Rattle.firm_rules.proofs.Nodes.{none_is_not_some, same_some, is_there}
 use Rattle.firm_rules.proofs.Stuck.{first_is_block}
 use Rattle.firm_rules.proofs.Testing.{equal}
 use Rattle.firm_rules.proofs.Trivial.{Operand, operand_of}
-use Rattle.firm_rules.proofs.Renamed.{renamed, renamed_old, renamed_other, Alike, IsRenamed}
+use Rattle.firm_rules.specs.Replacing.{renamed, Alike, IsRenamed}
+use Rattle.firm_rules.proofs.Renamed.{renamed_old, renamed_other}
 use Rattle.firm_rules.proofs.RenamedChains.{node_passes, first_same, giver_same, phi_gives, phi_does_not_act, tuple_of, chain_same}
 use Rattle.firm_rules.proofs.RenamedRules.{was, end_before}
 

@@ -9,7 +9,7 @@ use Rattle.firm_rules.specs.Graphs.{FirmNode, Firm}
 use Rattle.firm_rules.specs.Lookups.{node_at, mode_at, IsBlock, end_of, shape}
 use Rattle.firm_rules.specs.Rules.{is_phi, giver, chain, memory_into, memory_after, ComesTo, MemoryFits, Obeys, IsWhole}
 use Rattle.firm_rules.proofs.Nodes.{none_is_not_some, same_some}
-use Rattle.firm_rules.proofs.Renamed.{renamed, renamed_id, renamed_end, IsRenamed}
+use Rattle.firm_rules.specs.Replacing.{renamed, renamed_id, renamed_end, IsRenamed}
 use Rattle.firm_rules.proofs.RenamedChains.{acts_same, chain_same}
 use Rattle.firm_rules.proofs.RenamedRules.{was, renames, block_before, comes_before, reached, operands_fit, end_fits, phi_is_full, operands_defined, end_defined, no_cycle, first_fits, other_fits, entered_at_head, edges_fit}
 use Rattle.firm_rules.proofs.RenamedMemory.{given, giver_after, into_given, after_given, phi_was, phi_same, phi_before}

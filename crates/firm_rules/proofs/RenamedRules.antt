@@ -15,7 +15,8 @@ use Rattle.firm_rules.specs.Rules.{is_phi, HaveMode, OperandsFit, EndFits, PhiIs
 use Rattle.firm_rules.proofs.Steps.{Test, alike, apart, test}
 use Rattle.firm_rules.proofs.Nodes.{none_is_not_some, same_some, block_at}
 use Rattle.firm_rules.proofs.Trivial.{passed_value, no_walk_to_value, up_to}
-use Rattle.firm_rules.proofs.Renamed.{renamed, renamed_old, renamed_other, renamed_end, Alike, IsRenamed}
+use Rattle.firm_rules.specs.Replacing.{renamed, renamed_end, Alike, IsRenamed}
+use Rattle.firm_rules.proofs.Renamed.{renamed_old, renamed_other}
 
 module _ (g : Firm) (obeys : Obeys g) (whole : IsWhole g) (old : ℕ) (node : FirmNode) (is : node_at g old ≡ Some node) (phi_op : is_phi node.op ≡ true)
     (to : ℕ) (each : (index operand : ℕ) → slice_get node.operands index ≡ Some operand → (operand ≡ old) ⊎ (operand ≡ to)) (differs : to ≢ old)

@@ -24,18 +24,11 @@ use Rattle.firm_rules.proofs.Points.{means_at}
 use Rattle.firm_rules.proofs.Edges.{is_walk}
 use Rattle.firm_rules.proofs.RunLaws.{program_is, program_runs}
 use Rattle.firm_rules.proofs.Simulation.{Stands, Follower, from_first, simulates}
-use Rattle.firm_rules.proofs.Renamed.{renamed, renamed_end, Alike, IsRenamed, word_same, operand_same}
+use Rattle.firm_rules.specs.Replacing.{renamed, renamed_end, Alike, IsRenamed, Pair, Pairs}
+use Rattle.firm_rules.proofs.Renamed.{word_same, operand_same}
 use Rattle.firm_rules.proofs.RenamedChains.{phi_does_not_act, chain_same, wants_same}
 
 -- ---- programs whose graphs are the same but for one
-
-abbrev pub Pair : Firm → Firm → Firm → Firm → Type 0
-Pair g h x y = (y ≡ x) ⊎ ((x ≡ g) × (y ≡ h))
-
-abbrev pub Pairs : Firm → Firm → List Firm → List Firm → Type 0
-Pairs g h [] [] = Unit {0}
-Pairs g h (x ∷ xs) (y ∷ ys) = Pair g h x y × Pairs g h xs ys
-Pairs g h one two = ⊥
 
 abbrev PairOption : Firm → Firm → Option Firm → Option Firm → Type 0
 PairOption g h None None = Unit {0}

@@ -4,3 +4,4 @@ pub mod Rules
 pub mod Frames
 pub mod Runs
 pub mod Visits
+pub mod Replacing

@@ -7,10 +7,11 @@ ghost use Rattle.ssa_core.specs.Shapes.{Shape, Becomes, IsReplaced};
 ghost use Rattle.ssa_core.specs.Walks.{Walk, end, IsWalk, Visits, along};
 ghost use Rattle.firm_rules.specs.declared.node.NodeId.{NodeId};
 ghost use Rattle.firm_rules.specs.Graphs.{FirmNode, Firm, Program};
-ghost use Rattle.firm_rules.specs.Lookups.{node_at, node_id, first_of, IsBlock, shape};
-ghost use Rattle.firm_rules.specs.Rules.{is_phi, acts_in, takes_from, chain, ComesTo, Obeys, IsClosed};
+ghost use Rattle.firm_rules.specs.Lookups.{node_at, node_id, mode_at, first_of, IsBlock, shape};
+ghost use Rattle.firm_rules.specs.Rules.{is_phi, acts_in, takes_from, chain, ComesTo, Obeys, IsClosed, IsWhole};
 ghost use Rattle.firm_rules.specs.Frames.{Frame, first_frame, word_by, word_within, word_at};
 ghost use Rattle.firm_rules.specs.Runs.{Cause, no_main, no_status, bad_access, no_value, came, stuck, Result, stops, store_of, Runs, run, FirmRan, firm_run, RunsProgram};
+ghost use Rattle.firm_rules.specs.Replacing.{IsRenamed, Pairs};
 ghost use Rattle.firm_rules.specs.Visits.{History, with_visit, word_on, Comes};
 
 /// The run as a function gives what the run as a relation says, where the bound of the turns is not below those that are
@@ -143,4 +144,28 @@ pub fn trivial_phi()
         → Becomes (node_id n) (node_id other) x y
         → ((w : Walk) → ComesTo g w (end (shape g) walk) → Visits (shape g) w ((shape g).block x))
         → along t walk y ≡ along (shape g) walk x }
+{}
+
+/// Putting the other value in the place of a trivial Phi, where both have one mode, keeps the rules, and the run of each program
+/// that has the graph.
+pub fn replacing_keeps()
+    ensures rules { (g h : Firm) (old other : ℕ) (node : FirmNode)
+        → Obeys g
+        → IsWhole g
+        → node_at g old ≡ Some node
+        → is_phi node.op ≡ true
+        → ((index operand : ℕ) → slice_get node.operands index ≡ Some operand → (operand ≡ old) ⊎ (operand ≡ other))
+        → other ≢ old
+        → mode_at g other ≡ mode_at g old
+        → IsRenamed g h old other
+        → Obeys h }
+    ensures run { (g h : Firm) (old other : ℕ) (node : FirmNode) (p q : Program) (image : List ℕ) (layout : Layout) (input : List ℕ) (depth turns : ℕ)
+        → Obeys g
+        → node_at g old ≡ Some node
+        → is_phi node.op ≡ true
+        → ((index operand : ℕ) → slice_get node.operands index ≡ Some operand → (operand ≡ old) ⊎ (operand ≡ other))
+        → other ≢ old
+        → IsRenamed g h old other
+        → Pairs g h p.graphs q.graphs
+        → firm_run q image layout input depth turns ≡ firm_run p image layout input depth turns }
 {}
