@@ -1,1 +1,3 @@
 mod HeldLaws
+mod CountLaws
+mod EditLaws

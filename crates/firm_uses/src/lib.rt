@@ -13,6 +13,7 @@
 // of the users of one thing only how often each stands among them.
 #![tactic(auto)]
 
+mod edits;
 mod rows;
 
 pub use rows::Rows;
