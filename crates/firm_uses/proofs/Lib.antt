@@ -1,3 +1,4 @@
 mod HeldLaws
 mod CountLaws
 mod EditLaws
+mod TieLaws

@@ -14,6 +14,9 @@
 #![tactic(auto)]
 
 mod edits;
+mod places;
 mod rows;
+mod uses;
 
 pub use rows::Rows;
+pub use uses::Uses;
