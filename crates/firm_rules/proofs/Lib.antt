@@ -1,0 +1,12 @@
+mod Made
+mod Rows
+mod Steps
+mod Agreement
+mod Chains
+mod Stuck
+mod RunLaws
+mod Along
+mod Nodes
+mod Visits
+mod Points
+mod Edges

@@ -1,6 +1,6 @@
 -- Graphs as data: blocks with their predecessors and ends, and nodes that stand in blocks and name their operands.
 -- Braun, Buchwald and Zwinkau, Firm: A Graph-Based Intermediate Representation (2011).
-use Rattle.std.specs.Prelude.{ℕ, Bool, List, [], ◌∷◌, Option}
+use Rattle.std.specs.Prelude.{ℕ, Bool, true, false, List, [], ◌∷◌, Option}
 use Rattle.cp_base.specs.declared.op.Op.{Op}
 use Rattle.cp_base.specs.declared.op.Op.TheVariants.{Conv}
 use Rattle.firm_rules.specs.declared.node.Mode.{Mode}
@@ -9,8 +9,7 @@ use Rattle.firm_rules.specs.declared.node.NodeOp.{NodeOp}
 use Rattle.firm_rules.specs.declared.node.NodeOp.TheVariants as op
 use Rattle.firm_rules.specs.declared.node.FirmEnd.{FirmEnd}
 
--- A node in its block. One that was replaced or removed is no longer there, and `current` is what is now in its place; a
--- node that is there is its own.
+-- A node in its block. One that was replaced or removed is no longer there, and `current` is what is now in its place.
 pub record FirmNode : Type 0 where
   pub op : NodeOp
   pub block : ℕ
@@ -66,6 +65,15 @@ operands_of op.ProjM = exactly (Tuple ∷ [])
 operands_of op.ProjR = exactly (Tuple ∷ [])
 operands_of (op.Phi mode) = all_of mode
 
+-- the operation takes a memory, and is no Phi
+abbrev pub acts_by : Operands → Bool
+acts_by (exactly (Memory ∷ modes)) = true
+acts_by memory_and_words = true
+acts_by operands = false
+
+abbrev pub acts : NodeOp → Bool
+acts o = acts_by (operands_of o)
+
 abbrev pub mode_of : NodeOp → Mode
 mode_of op.Start = Memory
 mode_of (op.Param i) = Word
@@ -81,3 +89,12 @@ mode_of op.Put = Tuple
 mode_of op.ProjM = Memory
 mode_of op.ProjR = Word
 mode_of (op.Phi mode) = mode
+
+-- an operation that gives the same word wherever its operands have the same
+abbrev pub is_pure : NodeOp → Bool
+is_pure (op.Param i) = true
+is_pure (op.Const n) = true
+is_pure (op.Addr n) = true
+is_pure op.Unknown = true
+is_pure (op.Apply op) = true
+is_pure o = false
