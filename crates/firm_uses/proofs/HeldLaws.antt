@@ -1,7 +1,9 @@
 -- What a change of the lists and rows does to what is seen of them.
-use Rattle.std.proofs.Common.{◌≡◌, ◌≢◌, ℕ, zero, suc, ◌+◌, ◌-◌, ◌<◌, ◌≤◌, List, [], ◌∷◌, ◌++◌, length, take, map, get_or, set, replicate, refl, sym, ap, ap₂, ◌∙◌, subst, arith, Result, IsOk, is_ok, if◌then◌else◌, inl, inr}
+use Rattle.std.proofs.Common.{◌≡◌, ◌≢◌, ℕ, zero, suc, ◌+◌, ◌-◌, ◌<◌, ◌≤◌, List, [], ◌∷◌, ◌++◌, length, take, map, get_or, set, replicate, refl, sym, ap, ap₂, ◌∙◌, subst, arith, length-append, Result, IsOk, is_ok, if◌then◌else◌, inl, inr, Some}
 use Rattle.std.proofs.lemmas.List.{length-set, length-map, get_or-set_same, get_or-set_other, get_or_append_left, get_or_at, get_or-map, take_more_set, map_push, take-take, set-get_or, take_at, get_or_default, length-take-le, take_all}
 use Rattle.std.proofs.lemmas.Bool.{cases_eq}
+use Rattle.std.proofs.lemmas.Option.{get_or_from_slice_get}
+use Rattle.std.specs.List.{slice_get}
 use Rattle.cp_obstack.specs.Lists.{list_of, with_number}
 use Rattle.firm_uses.specs.declared.rows.Row.{Row}
 use Rattle.firm_uses.specs.Held.{AreApart, seen, front, room, no_row, row_at, span_at}
@@ -239,3 +241,62 @@ front_copied len size fill list copied filled c f fits within =
     let size_is : length (take len list) ≡ len = length-take-le len list within in
     let copied_is : take size copied ≡ take len list = ap (take size) c ∙ take_all size (take len list) (omega (arith, size_is, fits)) in
     ap (take len) (f ∙ ap (λ l. l ++ replicate fill 0) copied_is) ∙ take_at (take len list) (replicate fill 0) len size_is
+
+-- ---- a list that is read
+
+pub room_read : (lists : List (List ℕ)) (rows : List Row) (k : ℕ) (row : Row) (list : List ℕ) → k < length rows → row ≡ row_at rows k
+    → slice_get lists row.span.number ≡ Some list → get_or (map (seen room lists) rows) k 0 ≡ length list - row.len
+room_read lists rows k row list there is read =
+    let list_is : list_of lists row.span.number ≡ list = get_or_from_slice_get lists row.span.number list [] read in
+    room_at lists rows k there ∙ ap (λ (r : Row). length (list_of lists r.span.number) - r.len) (sym is) ∙ ap (λ l. length l - row.len) list_is
+
+pub within_row : (lists : List (List ℕ)) (rows : List Row) (k : ℕ) (row : Row) → AreApart lists rows → k < length rows → row ≡ row_at rows k
+    → row.len ≤ length (list_of lists row.span.number)
+within_row lists rows k row h there is = subst (λ (r : Row). r.len ≤ length (list_of lists r.span.number)) (sym is) (h.within k there)
+
+pub within_read : (lists : List (List ℕ)) (rows : List Row) (k : ℕ) (row : Row) (list : List ℕ) → AreApart lists rows → k < length rows → row ≡ row_at rows k
+    → slice_get lists row.span.number ≡ Some list → row.len ≤ length list
+within_read lists rows k row list h there is read =
+    subst (λ l. row.len ≤ length l) (get_or_from_slice_get lists row.span.number list [] read) (within_row lists rows k row h there is)
+
+-- a row that moved to a list of its own
+pub moved_apart : (lists : List (List ℕ)) (rows : List Row) (k : ℕ) (list : List ℕ) (next : Row) → AreApart lists rows → k < length rows
+    → next.span.number ≡ length lists → next.len ≤ length list → AreApart (lists ++ list ∷ []) (set rows k next)
+moved_apart lists rows k list next h there span fits =
+    let many = length-set rows k next in
+    let more : length (lists ++ list ∷ []) ≡ suc (length lists) = omega (arith, length-append lists (list ∷ [])) in
+    let span_now : span_at (set rows k next) k ≡ length lists = ap (λ (r : Row). r.span.number) (at_row rows k next there) ∙ span in
+    record {
+      there = λ j lt. elim (cases_eq j k) [
+        | inl same ↦ omega (arith, ap (span_at (set rows k next)) same, span_now, more)
+        | inr ne ↦ omega (arith, ap (λ (r : Row). r.span.number) (at_other rows k j next ne), h.there j (omega (arith, lt, many)), more)
+      ];
+      within = λ j lt. elim (cases_eq j k) [
+        | inl same ↦ omega (
+          arith,
+          ap (λ i. (row_at (set rows k next) i).len) same,
+          ap (λ (r : Row). r.len) (at_row rows k next there),
+          ap (λ i. length (list_of (lists ++ list ∷ []) (span_at (set rows k next) i))) same,
+          ap length (new_list lists list (span_at (set rows k next) k) span_now),
+          fits,
+        )
+        | inr ne ↦ omega (
+          arith,
+          ap (λ (r : Row). r.len) (at_other rows k j next ne),
+          h.within j (omega (arith, lt, many)),
+          ap (λ (r : Row). length (list_of (lists ++ list ∷ []) r.span.number)) (at_other rows k j next ne),
+          ap length (old_list lists list (span_at rows j) (h.there j (omega (arith, lt, many)))),
+        )
+      ];
+      apart = λ i j li lj e. elim (cases_eq i k) [
+        | inl a ↦ elim (cases_eq j k) [
+          | inl b ↦ a ∙ sym b
+          | inr ne ↦ absurd (omega (arith, e, ap (span_at (set rows k next)) a, span_now, ap (λ (r : Row). r.span.number) (at_other rows k j next ne), h.there j (omega (arith, lj, many))))
+        ]
+        | inr ne ↦ elim (cases_eq j k) [
+          | inl b ↦ absurd (omega (arith, e, ap (span_at (set rows k next)) b, span_now, ap (λ (r : Row). r.span.number) (at_other rows k i next ne), h.there i (omega (arith, li, many))))
+          | inr nj ↦ h.apart i j (omega (arith, li, many)) (omega (arith, lj, many))
+              (sym (ap (λ (r : Row). r.span.number) (at_other rows k i next ne)) ∙ e ∙ ap (λ (r : Row). r.span.number) (at_other rows k j next nj))
+        ]
+      ];
+    }

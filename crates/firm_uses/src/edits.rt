@@ -1,8 +1,8 @@
 // Changes of whole rows.
-ghost use Rattle.std.specs.Prelude.{◌≡◌, ◌≢◌, ◌<◌, ◌++◌, length, map, OnOk, OnErr};
+ghost use Rattle.std.specs.Prelude.{◌≡◌, ◌≢◌, ◌<◌, ◌≤◌, ◌++◌, length, map, OnOk, OnErr, IsOk};
 ghost use Rattle.std.specs.List.{remove};
 ghost use Rattle.cp_obstack.specs.Lists.{list_of};
-ghost use Rattle.firm_uses.specs.Tables.{with_list};
+ghost use Rattle.firm_uses.specs.Tables.{with_list, room_of};
 ghost use Rattle.firm_uses.specs.Counts.{renamed};
 
 use crate::rows::Rows;
@@ -29,6 +29,7 @@ impl Rows {
         requires from { from < length self.old.rows }
         requires differs { row ≢ from }
         ensures ok { OnOk result (self.new.rows ≡ with_list self.old.rows row (list_of self.old.rows row ++ list_of self.old.rows from)) }
+        ensures within { length (list_of self.old.rows from) ≤ room_of self.old row → IsOk result }
         ensures err { OnErr result (self.new.rows ≡ self.old.rows) }
     {
         let count = self.list(from).len();

@@ -78,16 +78,17 @@ impl Rows {
     pub fn reserve(&mut self, row: usize, more: usize) -> Result<(), AllocError>
         requires { row < length self.old.rows }
         ensures room { OnOk result (more ≤ room_of self.new row) }
+        ensures within { more ≤ room_of self.old row → IsOk result }
         ensures rows { self.new.rows ≡ self.old.rows }
         ensures err { OnErr result (self.new ≡ self.old) }
     {
         let Row { span, len } = self.rows[row];
+        if more <= self.numbers.list(span).len() - len {
+            return Ok(());
+        }
         let Some(size) = len.checked_add(more) else {
             return Err(AllocError);
         };
-        if size <= self.numbers.list(span).len() {
-            return Ok(());
-        }
         let span = moved(&mut self.numbers, &mut self.copied, span, len, size)?;
         self.rows[row] = Row { span, len };
         Ok(())

@@ -1,9 +1,9 @@
 // Who uses what.
-ghost use Rattle.std.specs.Prelude.{◌≡◌, ◌≢◌, ◌+◌, ◌<◌, [], ◌∷◌, ◌++◌, ℕ, length, OnOk, OnErr};
+ghost use Rattle.std.specs.Prelude.{◌≡◌, ◌≢◌, ◌+◌, ◌<◌, [], ◌∷◌, ◌++◌, ℕ, length, OnOk, OnErr, IsOk};
 ghost use Rattle.std.specs.List.{remove};
 ghost use Rattle.cp_obstack.specs.Lists.{list_of};
 ghost use Rattle.firm_uses.specs.Tables.{with_list};
-ghost use Rattle.firm_uses.specs.Counts.{times, renamed_rows};
+ghost use Rattle.firm_uses.specs.Counts.{times, renamed_rows, HasRoom};
 
 use crate::places::{forget, forget_one, rename_all};
 use crate::rows::Rows;
@@ -18,12 +18,12 @@ pub struct Uses {
 }
 
 impl Model for Uses {
-    ghost use Rattle.std.specs.Prelude.{length};
+    ghost use Rattle.std.specs.Prelude.{length, map};
     ghost use Rattle.firm_uses.specs.Counts.{AreTied, Used};
 
     ghost Value = { Used };
 
-    ghost view = { λ u. record { uses = u.uses.rows; count = length u.users.rows } };
+    ghost view = { λ u. record { uses = u.uses.rows; loads = map length u.users.rows; room = u.users.room } };
 
     ghost invariant = { λ u. AreTied u.uses.rows u.users.rows };
 }
@@ -32,7 +32,7 @@ impl Uses {
     /// No user, and nothing that is used.
     pub fn new(alloc: Global) -> Uses
         ensures uses { result.uses ≡ [] }
-        ensures count { result.count ≡ 0 }
+        ensures loads { result.loads ≡ [] }
     {
         Uses {
             uses: Rows::new(alloc),
@@ -50,7 +50,8 @@ impl Uses {
 
     /// One more that can be used.
     pub fn add_used(&mut self) -> Result<(), AllocError>
-        ensures ok { OnOk result (self.new ≡ record self.old { count = self.old.count + 1 }) }
+        ensures uses { self.new.uses ≡ self.old.uses }
+        ensures ok { OnOk result (length self.new.loads ≡ length self.old.loads + 1) }
         ensures err { OnErr result (self.new ≡ self.old) }
     {
         self.users.add()
@@ -66,7 +67,7 @@ impl Uses {
 
     /// The users, each as often as it uses this one.
     pub fn users(&self, used: usize) -> &[usize]
-        requires { used < self.now.count }
+        requires { used < length self.now.loads }
         ensures { (user : ℕ) → times user result.now ≡ times used (list_of self.now.uses user) }
     {
         self.users.list(used)
@@ -75,9 +76,10 @@ impl Uses {
     /// The user uses one more, last.
     pub fn push(&mut self, user: usize, used: usize) -> Result<(), AllocError>
         requires user { user < length self.old.uses }
-        requires used { used < self.old.count }
-        ensures ok { OnOk result (self.new ≡ record self.old { uses = with_list self.old.uses user (list_of self.old.uses user ++ used ∷ []) }) }
-        ensures err { OnErr result (self.new ≡ self.old) }
+        requires used { used < length self.old.loads }
+        ensures ok { OnOk result (self.new.uses ≡ with_list self.old.uses user (list_of self.old.uses user ++ used ∷ [])) }
+        ensures loads { length self.new.loads ≡ length self.old.loads }
+        ensures err { OnErr result (self.new.uses ≡ self.old.uses) }
     {
         self.users.reserve(used, 1)?;
         self.uses.push(user, used)?;
@@ -89,7 +91,8 @@ impl Uses {
     pub fn remove(&mut self, user: usize, index: usize)
         requires user { user < length self.old.uses }
         requires within { index < length (list_of self.old.uses user) }
-        ensures { self.new ≡ record self.old { uses = with_list self.old.uses user (remove (list_of self.old.uses user) index) } }
+        ensures uses { self.new.uses ≡ with_list self.old.uses user (remove (list_of self.old.uses user) index) }
+        ensures loads { length self.new.loads ≡ length self.old.loads }
     {
         let used = self.uses.list(user)[index];
         forget_one(&mut self.users, used, user);
@@ -99,19 +102,34 @@ impl Uses {
     /// The user uses nothing any more.
     pub fn clear(&mut self, user: usize)
         requires { user < length self.old.uses }
-        ensures { self.new ≡ record self.old { uses = with_list self.old.uses user [] } }
+        ensures uses { self.new.uses ≡ with_list self.old.uses user [] }
+        ensures loads { length self.new.loads ≡ length self.old.loads }
     {
         forget(&mut self.users, self.uses.list(user), user);
         self.uses.truncate(user, 0);
     }
 
+    /// Makes room for the users of `old` with `to`.
+    pub fn reserve(&mut self, old: usize, to: usize) -> Result<(), AllocError>
+        requires old { old < length self.old.loads }
+        requires to { to < length self.old.loads }
+        ensures uses { self.new.uses ≡ self.old.uses }
+        ensures loads { self.new.loads ≡ self.old.loads }
+        ensures room { OnOk result (HasRoom self.new old to) }
+    {
+        let count = self.users.list(old).len();
+        self.users.reserve(to, count)
+    }
+
     /// Each use of `old` becomes one of `to`.
     pub fn replace(&mut self, old: usize, to: usize) -> Result<(), AllocError>
-        requires old { old < self.old.count }
-        requires to { to < self.old.count }
+        requires old { old < length self.old.loads }
+        requires to { to < length self.old.loads }
         requires differs { to ≢ old }
-        ensures ok { OnOk result (self.new ≡ record self.old { uses = renamed_rows old to self.old.uses }) }
-        ensures err { OnErr result (self.new ≡ self.old) }
+        ensures ok { OnOk result (self.new.uses ≡ renamed_rows old to self.old.uses) }
+        ensures loads { length self.new.loads ≡ length self.old.loads }
+        ensures within { HasRoom self.old old to → IsOk result }
+        ensures err { OnErr result (self.new.uses ≡ self.old.uses) }
     {
         self.users.extend(to, old)?;
         rename_all(&mut self.uses, self.users.list(old), old, to);
