@@ -1,0 +1,4 @@
+mod HeldLaws
+mod CountLaws
+mod EditLaws
+mod TieLaws
