@@ -1,0 +1,153 @@
+// The nodes of a tree, each with its scope, its declarator and its text.
+ghost use Rattle.std.specs.Prelude.{◌≡◌, ◌<◌, ◌≤◌, IfOk, Some, false, length, true};
+ghost use Rattle.c_typing.specs.Places.{kind_at, node_at, text_at};
+ghost use Rattle.c_nodes.specs.Declarators.{Points, whole_of};
+ghost use Rattle.c_nodes.specs.Parents.{nodes_in};
+ghost use Rattle.c_names.specs.Texts as texts;
+ghost use Rattle.c_names.specs.Texts.{first_of};
+ghost use Rattle.c_names.specs.Denoted as denoted;
+ghost use Rattle.c_names.specs.Denoted.{IsBegun, IsDerived, IsScopeAt};
+
+use crate::texts::same_texts;
+use c_nodes::{Nodes, Span, innermost, next_parts, scopes, whole_declarators};
+use c_syntax::SynKind;
+use std::alloc::{AllocError, Global};
+use std::marker::Model;
+
+/// The nodes of a tree with their scopes, which contracts see as their table.
+#[derive(Drop)]
+pub struct ScopedNodes<'a> {
+    nodes: &'a Nodes<'a>,
+    wholes: Vec<usize>,
+    next: Vec<usize>,
+    texts: Vec<usize>,
+    scopes: Vec<Span>,
+    inner: Vec<usize>,
+}
+
+impl<'a> Model for ScopedNodes<'a> {
+    ghost use Rattle.std.specs.Prelude.{List};
+    ghost use Rattle.c_syntax.specs.declared.syntax.SynNode as node;
+    ghost use Rattle.c_names.specs.Denoted.{IsScoped};
+
+    ghost Value = { List node.SynNode };
+
+    ghost view = { λ s. s.nodes.now };
+
+    ghost invariant = { λ s. IsScoped s.nodes.now s.wholes.items s.next.items s.texts.items s.scopes.items s.inner.items };
+}
+
+impl<'a> ScopedNodes<'a> {
+    /// The nodes of a tree that some tokens derive.
+    pub fn of(alloc: Global, nodes: &'a Nodes<'a>) -> Result<ScopedNodes<'a>, AllocError>
+        requires { IsDerived nodes.now }
+        ensures { IfOk result (λ scoped. scoped ≡ nodes.now) }
+    {
+        let wholes = whole_declarators(alloc, nodes)?;
+        let next = next_parts(alloc, nodes)?;
+        let scopes = scopes(alloc, nodes, &wholes, &next)?;
+        let inner = innermost(alloc, &scopes, nodes.len())?;
+        let texts = same_texts(alloc, nodes)?;
+        Ok(ScopedNodes {
+            nodes,
+            wholes,
+            next,
+            texts,
+            scopes,
+            inner,
+        })
+    }
+
+    /// How many nodes there are.
+    pub(crate) fn len(&self) -> usize
+        ensures is { result ≡ length self.now }
+        ensures nodes { length (nodes_in self.now) ≡ length self.now }
+        ensures derived { IsDerived self.now }
+    {
+        self.nodes.len()
+    }
+
+    /// The kind of a node.
+    pub(crate) fn kind_at(&self, number: usize) -> SynKind
+        ensures { result ≡ kind_at (nodes_in self.now) number }
+    {
+        self.nodes.kind_at(number)
+    }
+
+    /// The innermost scope that a node stands in.
+    pub(crate) fn scope(&self, number: usize) -> Option<Span>
+        requires { number < length self.now }
+        ensures { IsScopeAt self.now number result }
+    {
+        let index = self.inner[number];
+        if index < self.scopes.len() {
+            Some(self.scopes[index])
+        } else {
+            None
+        }
+    }
+
+    /// The first node with the same name.
+    pub(crate) fn text(&self, number: usize) -> usize
+        requires within { number < length self.now }
+        requires named { texts.has_name (kind_at (nodes_in self.now) number) ≡ true }
+        ensures is { first_of (nodes_in self.now) (text_at (nodes_in self.now) number) ≡ Some result }
+        ensures there { result < length self.now }
+    {
+        self.texts[number]
+    }
+
+    /// The node of the name whose scope begins behind a node: that of the whole declarator, or of the enumerator.
+    pub(crate) fn begun(&self, number: usize) -> Option<usize>
+        requires { number < length self.now }
+        ensures { IsBegun self.now number result }
+    {
+        if is_enumerator(self.nodes.kind_at(number)) {
+            return Some(number);
+        }
+        let first = self.nodes.first(number);
+        if self.wholes[first] == number {
+            self.declared_by(number, first)
+        } else {
+            None
+        }
+    }
+
+    // The name that a whole declarator begins with, where it declares one.
+    fn declared_by(&self, whole: usize, first: usize) -> Option<usize>
+        requires within { whole < length self.now }
+        requires first { first ≡ (node_at (nodes_in self.now) whole).first }
+        requires low { first ≤ whole }
+        requires whole { Points (nodes_in self.now) whole (whole_of (nodes_in self.now) first) }
+        requires other { denoted.is_enumerator (kind_at (nodes_in self.now) whole) ≡ false }
+        ensures { IsBegun self.now whole result }
+    {
+        if !is_identifier(self.nodes.kind_at(first)) {
+            return None;
+        }
+        if declares(self.nodes.kind_at(self.nodes.parent(whole))) {
+            Some(first)
+        } else {
+            None
+        }
+    }
+}
+
+fn is_enumerator(kind: SynKind) -> bool
+    ensures { result ≡ denoted.is_enumerator kind }
+{
+    matches!(kind, SynKind::Enumer)
+}
+
+fn is_identifier(kind: SynKind) -> bool
+    ensures { result ≡ denoted.is_identifier kind }
+{
+    matches!(kind, SynKind::Ident)
+}
+
+// The names of its declarators are ordinary ones (6.2.3).
+fn declares(kind: SynKind) -> bool
+    ensures { result ≡ denoted.declares kind }
+{
+    matches!(kind, SynKind::InitDecl | SynKind::Function | SynKind::Param)
+}
