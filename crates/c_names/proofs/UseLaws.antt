@@ -15,7 +15,7 @@ use Rattle.c_nodes.specs.Parents.{tree_in, nodes_in}
 use Rattle.c_names.specs.declared.chain.Entry.{Entry}
 use Rattle.c_names.specs.Chains.{chains_of, IsVisible}
 use Rattle.c_names.specs.Texts.{first_of}
-use Rattle.c_names.specs.Denoted.{IsDerived, places_in, Among, Begins, IsStep, nothing, entered, Sees, named, is_use}
+use Rattle.c_names.specs.Denoted.{IsDerived, places_in, Among, Begins, IsStep, nothing, entered, Sees, node_of, is_use}
 use Rattle.c_names.proofs.ChainLaws.{Ascend, innermost_is, none_inside, passed, passes, filter_ascend}
 use Rattle.c_names.proofs.StandLaws as stand
 use Rattle.c_names.proofs.StandLaws.{EndApart, Stands, Seen, stands_same, stands_more, seen_from}
@@ -48,10 +48,6 @@ module _ (table : List SynNode) (d : IsDerived table) where
   text_of : (a : Name) → Among a (places_in table).names → a.text ≡ text_at (nodes_in table) a.node
   unfolding places_in nodes_in
   text_of a i = (declared.labelled d.tokens (tree_in table) d.derived a i).text
-
-  pub named_is : (a : Name) → Among a (places_in table).names → named table (Some a.node) ≡ Some a
-  unfolding places_in
-  named_is a i = declared.name_at d.tokens (tree_in table) d.derived a i
 
   -- ---- one node more
 
@@ -105,30 +101,28 @@ module _ (table : List SynNode) (d : IsDerived table) where
     has_text : (a : Name) → bytes_eq a.text text ≡ true → Has table number a
     has_text a e = ap (first_of (nodes_in table)) ((bytes_eq-Decides a.text text).0 e) ∙ is
 
-    from_seen : (found : Option ℕ) → Seen (places_in table).names (scopes_of (nodes_in table)) (Has table number) n found → denoted (places_in table).names n text ≡ named table found
+    from_seen : (found : Option ℕ) → Seen (places_in table).names (scopes_of (nodes_in table)) (Has table number) n found → found ≡ node_of (denoted (places_in table).names n text)
     from_seen found (stand.nothing absent none) =
-        none_inside (filter (names_at n text) (places_in table).names) (λ b i.
-        let p = passed (names_at n text) (places_in table).names b i in
-        let t = split b p.1 in
-        none b p.0 (has_text b t.0) (less_so b.behind n t.1) t.2)
-        ∙ sym (ap (named table) absent)
+        absent ∙ sym (ap node_of (none_inside (filter (names_at n text) (places_in table).names) (λ b i.
+            let p = passed (names_at n text) (places_in table).names b i in
+            let t = split b p.1 in
+            none b p.0 (has_text b t.0) (less_so b.behind n t.1) t.2)))
     from_seen found (stand.best a given among has behind inside first) =
-        innermost_is a None (filter (names_at n text) (places_in table).names) (filter_ascend (names_at n text) (places_in table).names ascend)
+        given ∙ sym (ap node_of (innermost_is a None (filter (names_at n text) (places_in table).names) (filter_ascend (names_at n text) (places_in table).names ascend)
         (passes (names_at n text) (places_in table).names a among
         (and_true (bytes_eq a.text text && nat_lt a.behind n) (in_scope a.scope n) (and_true (bytes_eq a.text text) (nat_lt a.behind n) ((bytes_eq-Decides a.text text).1 (one_text_in table d a.text text number has is)) (so_less a.behind n behind)) inside))
         (λ b i.
-        let p = passed (names_at n text) (places_in table).names b i in
-        let t = split b p.1 in
-        first b p.0 (has_text b t.0) (less_so b.behind n t.1) t.2)
-        (λ b e. absurd (cc e))
-        ∙ sym (ap (named table) given ∙ named_is a among)
+            let p = passed (names_at n text) (places_in table).names b i in
+            let t = split b p.1 in
+            first b p.0 (has_text b t.0) (less_so b.behind n t.1) t.2)
+        (λ b e. absurd (cc e))))
 
-    pub denoted_is : (chains : List (List Entry)) (found : Option ℕ) → number < length table → StandAll table n chains → IsVisible n (get_or chains number []) found → denoted (places_in table).names n (text_at (nodes_in table) n) ≡ named table found
+    pub denoted_is : (chains : List (List Entry)) (found : Option ℕ) → number < length table → StandAll table n chains → IsVisible n (get_or chains number []) found → found ≡ node_of (denoted (places_in table).names n (text_at (nodes_in table) n))
     denoted_is chains found within s visible = from_seen found (seen_from (places_in table).names (scopes_of (nodes_in table)) (Has table number) n (get_or chains number []) found (s number within) visible)
 
 -- what the chains say of a use
 pub sees : (table : List SynNode) (d : IsDerived table) (n : ℕ) (chains : List (List Entry)) (found : Option ℕ) → Sees table n chains found → length (nodes_in table) ≡ length table → StandAll table n chains
-    → is_use (kind_at (nodes_in table) n) ≡ true → denoted (places_in table).names n (text_at (nodes_in table) n) ≡ named table found
+    → is_use (kind_at (nodes_in table) n) ≡ true → found ≡ node_of (denoted (places_in table).names n (text_at (nodes_in table) n))
 sees table d n chains found says long stand is_one =
     let s = says is_one in
     denoted_is table d n s.0 s.1 chains found (first_within_in table d long (text_at (nodes_in table) n) s.0 s.1) stand s.2

@@ -1,5 +1,5 @@
 -- What the identifiers of a table denote.
-use Rattle.std.specs.Prelude.{◌≡◌, ◌⊎◌, ℕ, ◌<◌, Bool, true, false, List, [], ◌∷◌, Option, Some, None, get_or, length, map, slice_set}
+use Rattle.std.specs.Prelude.{◌≡◌, ◌⊎◌, ℕ, ◌<◌, Bool, true, false, List, [], ◌∷◌, Option, Some, None, get_or, length, map, option_map, slice_set}
 use Rattle.std.specs.List.{range_with_len}
 use Rattle.c_lexer.specs.declared.token.Token.{Token}
 use Rattle.c_syntax.specs.declared.kind.SynKind.{SynKind}
@@ -7,7 +7,7 @@ use Rattle.c_syntax.specs.declared.kind.SynKind.TheVariants as kind
 use Rattle.c_syntax.specs.declared.syntax.SynNode.{SynNode}
 use Rattle.c_grammar.specs.Derivation.{IsTreeOf}
 use Rattle.c_typing.specs.Places.{kind_at, text_at, scopes_of, scope_at, no_scope}
-use Rattle.c_typing.specs.Names.{Places, places, Name, denoted, name_of}
+use Rattle.c_typing.specs.Names.{Places, places, Name, denoted}
 use Rattle.c_nodes.specs.declared.spans.Span.{Span}
 use Rattle.c_nodes.specs.Parents.{tree_in, nodes_in}
 use Rattle.c_nodes.specs.Declarators.{AreNext, AreWholes}
@@ -31,15 +31,13 @@ is_use kind.Var = true
 is_use kind.Word = true
 is_use k = false
 
--- the name that a node declares, where one is given
-abbrev pub named : List SynNode → Option ℕ → Option Name
-named table None = None
-named table (Some node) = name_of (places_in table) node
+abbrev pub node_of : Option Name → Option ℕ
+node_of e = option_map (λ (a : Name). a.node) e
 
--- a use denotes the name that this node declares; to another node none is given
+-- the node of what a use denotes; to another node none is given
 abbrev pub IsDenoted : List SynNode → ℕ → Option ℕ → Type 0
 IsDenoted table n found =
-    (is_use (kind_at (nodes_in table) n) ≡ true → denoted (places_in table).names n (text_at (nodes_in table) n) ≡ named table found)
+    (is_use (kind_at (nodes_in table) n) ≡ true → found ≡ node_of (denoted (places_in table).names n (text_at (nodes_in table) n)))
     × (is_use (kind_at (nodes_in table) n) ≡ false → found ≡ None)
 
 -- for each node, the node that declares what it denotes
