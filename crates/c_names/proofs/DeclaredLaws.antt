@@ -108,7 +108,7 @@ declares_so s owner specs c f kind.Function y e = refl
 declares_so s owner specs c f kind.Param y e = refl
 declares_so s owner specs c f _ y e = absurd (cc e)
 
-so_declares : (s : List Node) (owner specs : Node) (c : Scope) (f : Bool) (k : SynKind) → declares k ≡ true → (y : Entity) × (entity_by s owner specs c f k ≡ Some y)
+pub so_declares : (s : List Node) (owner specs : Node) (c : Scope) (f : Bool) (k : SynKind) → declares k ≡ true → (y : Entity) × (entity_by s owner specs c f k ≡ Some y)
 so_declares s owner specs c f kind.InitDecl e = (unwrap_or (entity_by s owner specs c f kind.InitDecl) enumerator, refl)
 so_declares s owner specs c f kind.Function e = (unwrap_or (entity_by s owner specs c f kind.Function) enumerator, refl)
 so_declares s owner specs c f kind.Param e = (unwrap_or (entity_by s owner specs c f kind.Param) enumerator, refl)
@@ -118,7 +118,7 @@ enumerator_kind : (k : SynKind) → is_enumerator k ≡ true → k ≡ kind.Enum
 enumerator_kind kind.Enumer e = refl
 enumerator_kind _ e = absurd (true≢false (sym e))
 
-identifier_kind : (k : SynKind) → is_identifier k ≡ true → k ≡ kind.Ident
+pub identifier_kind : (k : SynKind) → is_identifier k ≡ true → k ≡ kind.Ident
 identifier_kind kind.Ident e = refl
 identifier_kind _ e = absurd (true≢false (sym e))
 
@@ -152,7 +152,7 @@ module _ (tokens : List Token) (t : Tree) (derived : IsTreeOf tokens t) where
     pub text : e.text ≡ text_at (nodes t) e.node
     pub scope : e.scope ≡ scope_at (scopes_of (nodes t)) e.node
 
-  here : (e : Name) (q : Named (nodes t) e) → node_at (nodes t) e.node ≡ q.node
+  pub here : (e : Name) (q : Named (nodes t) e) → node_at (nodes t) e.node ≡ q.node
   here e q = ap (node_at (nodes t)) (q.numbered ∙ numbered tokens t derived q.place q.node q.there) ∙ node_there tokens t derived q.place q.node q.there
 
   pub labelled : (e : Name) → Among e (places t).names → Labelled e
@@ -166,7 +166,7 @@ module _ (tokens : List Token) (t : Tree) (derived : IsTreeOf tokens t) where
       by before m (by_declarator i b o f y) = ap has_name i
       by before m (by_enumerator i b o f y) = ap has_name i
 
-  there : (n : ℕ) → n < length (nodes t) → slice_get (nodes t) n ≡ Some (node_at (nodes t) n)
+  pub there : (n : ℕ) → n < length (nodes t) → slice_get (nodes t) n ≡ Some (node_at (nodes t) n)
   there n within = by (nodes t) n within
     where
       by : (s : List Node) (i : ℕ) → i < length s → slice_get s i ≡ Some (node_at s i)

@@ -6,3 +6,6 @@ pub mod TableLaws
 pub mod PutLaws
 pub mod TextLaws
 pub mod UseLaws
+pub mod NameLaws
+pub mod FoundLaws
+pub mod IndexLaws

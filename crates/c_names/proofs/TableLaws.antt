@@ -125,6 +125,8 @@ module _ (table : List SynNode) (whole next first : List ℕ) (spans : List Span
       → Begins table n node
   unfolding nodes_in places_in
   begins n node within s enum decl = record {
+    derived = k.derived;
+    nodes = long;
     name = s.name;
     among = s.among;
     at = s.at;

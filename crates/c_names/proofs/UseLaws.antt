@@ -104,17 +104,17 @@ module _ (table : List SynNode) (d : IsDerived table) where
     from_seen : (found : Option ℕ) → Seen (places_in table).names (scopes_of (nodes_in table)) (Has table number) n found → found ≡ node_of (denoted (places_in table).names n text)
     from_seen found (stand.nothing absent none) =
         absent ∙ sym (ap node_of (none_inside (filter (names_at n text) (places_in table).names) (λ b i.
-            let p = passed (names_at n text) (places_in table).names b i in
-            let t = split b p.1 in
-            none b p.0 (has_text b t.0) (less_so b.behind n t.1) t.2)))
+        let p = passed (names_at n text) (places_in table).names b i in
+        let t = split b p.1 in
+        none b p.0 (has_text b t.0) (less_so b.behind n t.1) t.2)))
     from_seen found (stand.best a given among has behind inside first) =
         given ∙ sym (ap node_of (innermost_is a None (filter (names_at n text) (places_in table).names) (filter_ascend (names_at n text) (places_in table).names ascend)
         (passes (names_at n text) (places_in table).names a among
         (and_true (bytes_eq a.text text && nat_lt a.behind n) (in_scope a.scope n) (and_true (bytes_eq a.text text) (nat_lt a.behind n) ((bytes_eq-Decides a.text text).1 (one_text_in table d a.text text number has is)) (so_less a.behind n behind)) inside))
         (λ b i.
-            let p = passed (names_at n text) (places_in table).names b i in
-            let t = split b p.1 in
-            first b p.0 (has_text b t.0) (less_so b.behind n t.1) t.2)
+        let p = passed (names_at n text) (places_in table).names b i in
+        let t = split b p.1 in
+        first b p.0 (has_text b t.0) (less_so b.behind n t.1) t.2)
         (λ b e. absurd (cc e))))
 
     pub denoted_is : (chains : List (List Entry)) (found : Option ℕ) → number < length table → StandAll table n chains → IsVisible n (get_or chains number []) found → found ≡ node_of (denoted (places_in table).names n (text_at (nodes_in table) n))
@@ -135,7 +135,7 @@ chain_at chains text d within = get_or-map (λ (chain : Vec Entry Global). chain
 pub with_chain : (chains : List (Vec Entry Global)) (text : ℕ) (chain : Vec Entry Global) → chains_of (slice_set chains text chain) ≡ slice_set (chains_of chains) text chain.items
 with_chain [] text chain = refl
 with_chain (x ∷ chains) zero chain = refl
-with_chain (x ∷ chains) (suc text) chain = ap (λ rest. x.items ∷ rest) (with_chain chains text chain)
+with_chain (x ∷ chains) (suc i) chain = ap (λ rest. x.items ∷ rest) (with_chain chains i chain)
 
 pub length-chains : (chains : List (Vec Entry Global)) → length (chains_of chains) ≡ length chains
 length-chains chains = length-map chains (λ chain. chain.items)
@@ -150,7 +150,7 @@ one_more_empty (x ∷ chains) chain h e = (h.0, one_more_empty chains chain h.1 
 pub empty_at : (chains : List (Vec Entry Global)) → AreEmpty chains → (text : ℕ) → get_or (chains_of chains) text [] ≡ []
 empty_at [] h text = refl
 empty_at (x ∷ chains) h zero = h.0
-empty_at (x ∷ chains) h (suc text) = empty_at chains h.1 text
+empty_at (x ∷ chains) h (suc i) = empty_at chains h.1 i
 
 -- ---- the start
 

@@ -82,6 +82,8 @@ IsScopeAt table n (Some span) = (scope_at (scopes_of (nodes_in table)) n ≡ sco
 
 -- the node of the name whose scope begins behind this node
 pub record Begins (table : List SynNode) (n node : ℕ) : Type 0 where
+  pub derived : IsDerived table
+  pub nodes : length (nodes_in table) ≡ length table
   pub name : Name
   pub among : Among name (places_in table).names
   pub at : name.node ≡ node

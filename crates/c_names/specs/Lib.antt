@@ -1,3 +1,4 @@
 pub mod Texts
 pub mod Chains
 pub mod Denoted
+pub mod Names

@@ -19,9 +19,12 @@
 #![tactic(auto)]
 
 mod chain;
+mod names;
 mod scoped;
 mod texts;
 mod uses;
+mod words;
 
+pub use names::{DeclaredName, Entity, declared_names};
 pub use scoped::ScopedNodes;
 pub use uses::denoted;

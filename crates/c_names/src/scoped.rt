@@ -1,6 +1,11 @@
 // The nodes of a tree, each with its scope, its declarator and its text.
-ghost use Rattle.std.specs.Prelude.{◌≡◌, ◌<◌, ◌≤◌, IfOk, Some, false, length, true};
-ghost use Rattle.c_typing.specs.Places.{kind_at, node_at, text_at};
+ghost use Rattle.std.specs.Prelude.{◌≡◌, ◌<◌, ◌≤◌, List, IfOk, Some, false, length, true};
+ghost use Rattle.c_typing.specs.Places as places;
+ghost use Rattle.c_typing.specs.Places.{Node, index_in, kid, kind_at, node_at, numbers, other_kids, scope_at, scopes_of, specs_by, text_at};
+ghost use Rattle.c_typing.specs.Names.{Name, declares_function, says_function};
+ghost use Rattle.c_typing.specs.ShapesOfNodes.{in_table};
+ghost use Rattle.c_nodes.specs.Parents.{IsWithin};
+ghost use Rattle.c_nodes.specs.Scopes.{scope_of};
 ghost use Rattle.c_nodes.specs.Declarators.{Points, whole_of};
 ghost use Rattle.c_nodes.specs.Parents.{nodes_in};
 ghost use Rattle.c_names.specs.Texts as texts;
@@ -10,7 +15,7 @@ ghost use Rattle.c_names.specs.Denoted.{IsBegun, IsDerived, IsScopeAt};
 
 use crate::texts::same_texts;
 use c_nodes::{Nodes, Span, innermost, next_parts, scopes, whole_declarators};
-use c_syntax::SynKind;
+use c_syntax::{SynId, SynKind, SynNode};
 use std::alloc::{AllocError, Global};
 use std::marker::Model;
 
@@ -87,6 +92,92 @@ impl<'a> ScopedNodes<'a> {
         }
     }
 
+    /// The same, where it has none a scope that no node stands in.
+    pub(crate) fn scope_or_none(&self, number: usize) -> Span
+        requires { number < length self.now }
+        ensures { scope_of result ≡ scope_at (scopes_of (nodes_in self.now)) number }
+    {
+        match self.scope(number) {
+            Some(scope) => scope,
+            None => Span {
+                node: 0,
+                from: 1,
+                to: 0,
+                more_from: 1,
+                more_to: 0,
+            },
+        }
+    }
+
+    /// The node of this number.
+    pub(crate) fn node(&self, number: usize) -> &SynNode
+        requires { number < length self.now }
+        ensures { result.now ≡ in_table (node_at (nodes_in self.now) number) }
+    {
+        self.nodes.node(number)
+    }
+
+    /// The kids of a node, which stand before it.
+    pub(crate) fn kids(&self, number: usize) -> &[SynId]
+        requires { number < length self.now }
+        ensures are { numbers result.now ≡ (node_at (nodes_in self.now) number).kids }
+        ensures before { IsWithin number result.now }
+    {
+        self.nodes.kids(number)
+    }
+
+    /// The parent of a node; of the root, a number that no node has.
+    pub(crate) fn parent(&self, number: usize) -> usize
+        requires { number < length self.now }
+        ensures { result ≡ (node_at (nodes_in self.now) number).parent }
+    {
+        self.nodes.parent(number)
+    }
+
+    /// The first kid of a node; where there is none, the first node.
+    pub(crate) fn first_kid(&self, number: usize) -> usize
+        ensures { result ≡ kid (node_at (nodes_in self.now) number) 0 }
+    {
+        if number < self.nodes.len() {
+            self.nodes.kid(number, 0)
+        } else {
+            0
+        }
+    }
+
+    /// The specs of what a declarator belongs to.
+    pub(crate) fn specs(&self, owner: usize) -> usize
+        requires { owner < length self.now }
+        ensures { result ≡ specs_by (nodes_in self.now) (node_at (nodes_in self.now) owner) (kind_at (nodes_in self.now) owner) }
+    {
+        match self.nodes.kind_at(owner) {
+            SynKind::InitDecl => self.first_kid(self.nodes.parent(owner)),
+            _ => self.first_kid(owner),
+        }
+    }
+
+    /// The declarator of a name declares a function, behind specs that say a function type or do not.
+    pub(crate) fn declares_function(&self, name: usize, by_specs: bool) -> bool
+        requires { name < length self.now }
+        ensures { (names : List Name) (specs : Node) → by_specs ≡ says_function (nodes_in self.now) names specs →
+            result ≡ declares_function (nodes_in self.now) names name specs }
+    {
+        let part = self.next[name];
+        if part < self.nodes.len() {
+            is_takes(self.nodes.kind_at(part))
+        } else {
+            by_specs
+        }
+    }
+
+    /// The index of a node among the kids of its parent but the first.
+    pub(crate) fn other_index(&self, number: usize) -> usize
+        requires { number < length self.now }
+        ensures { result ≡ index_in (other_kids (node_at (nodes_in self.now) (node_at (nodes_in self.now) number).parent)) number }
+    {
+        self.nodes.index(number).saturating_sub(1)
+    }
+
     /// The first node with the same name.
     pub(crate) fn text(&self, number: usize) -> usize
         requires within { number < length self.now }
@@ -133,10 +224,16 @@ impl<'a> ScopedNodes<'a> {
     }
 }
 
-fn is_enumerator(kind: SynKind) -> bool
+pub(crate) fn is_enumerator(kind: SynKind) -> bool
     ensures { result ≡ denoted.is_enumerator kind }
 {
     matches!(kind, SynKind::Enumer)
+}
+
+fn is_takes(kind: SynKind) -> bool
+    ensures { result ≡ places.is_takes kind }
+{
+    matches!(kind, SynKind::Takes)
 }
 
 fn is_identifier(kind: SynKind) -> bool
