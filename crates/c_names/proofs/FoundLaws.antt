@@ -40,7 +40,7 @@ next_less a n h = grind arith
 own_next : (n : ℕ) → nat_lt n (n + 1) ≡ true
 own_next n = grind arith
 
-some_same : {A : Type 0} {x y : A} → Some x ≡ Some y → x ≡ y
+pub some_same : {A : Type 0} {x y : A} → Some x ≡ Some y → x ≡ y
 some_same e = cc e
 
 module _ (table : List SynNode) (d : IsDerived table) where
@@ -73,55 +73,76 @@ module _ (table : List SynNode) (d : IsDerived table) where
 
   -- ---- one node more
 
-  pub put_none : (n : ℕ) (found : List (Option DeclaredName)) → IsBegun table n None → AreBegun table n found → AreBegun table (n + 1) found
-  put_none n found none a = record { derived = a.derived; nodes = a.nodes; long = a.long; are = λ i within. by i (name_of (places_in table) i) refl ∙ a.are i within }
+  -- nothing begins behind the node n
+  pub begun_none : (n : ℕ) → IsBegun table n None → (i : ℕ) → begun_at (n + 1) (name_of (places_in table) i) ≡ begun_at n (name_of (places_in table) i)
+  begun_none n none i = by (name_of (places_in table) i) refl
     where
-      by : (i : ℕ) (o : Option Name) → name_of (places_in table) i ≡ o → begun_at (n + 1) (name_of (places_in table) i) ≡ begun_at n (name_of (places_in table) i)
-      by i None e = ap (begun_at (n + 1)) e ∙ sym (ap (begun_at n) e)
-      by i (Some x) e =
+      by : (o : Option Name) → name_of (places_in table) i ≡ o → begun_at (n + 1) (name_of (places_in table) i) ≡ begun_at n (name_of (places_in table) i)
+      by None e = ap (begun_at (n + 1)) e ∙ sym (ap (begun_at n) e)
+      by (Some x) e =
           let f = found_of i x e in
           ap (begun_at (n + 1)) e ∙ (ap (λ b. if b then Some x else None) (next_less x.behind n (λ at. none x f.among at)) ∙ sym (ap (begun_at n) e))
+
+  -- another name begins behind it
+  pub begun_other : (n node : ℕ) → Begins table n node → (i : ℕ) → (i ≡ node → ⊥) → begun_at (n + 1) (name_of (places_in table) i) ≡ begun_at n (name_of (places_in table) i)
+  begun_other n node b i other = by (name_of (places_in table) i) refl
+    where
+      by : (o : Option Name) → name_of (places_in table) i ≡ o → begun_at (n + 1) (name_of (places_in table) i) ≡ begun_at n (name_of (places_in table) i)
+      by None e = ap (begun_at (n + 1)) e ∙ sym (ap (begun_at n) e)
+      by (Some y) e =
+          let f = found_of i y e in
+          ap (begun_at (n + 1)) e ∙ (ap (λ t. if t then Some y else None) (next_less y.behind n (λ at. other (sym f.at ∙ (ap (λ (z : Name). z.node) (b.alone y f.among at) ∙ b.at)))) ∙ sym (ap (begun_at n) e))
+
+  -- this one does
+  pub begun_own : (n node : ℕ) (b : Begins table n node) → begun_at (n + 1) (name_of (places_in table) node) ≡ Some b.name
+  begun_own n node b =
+      ap (λ k. begun_at (n + 1) (name_of (places_in table) k)) (sym b.at)
+      ∙ (ap (begun_at (n + 1)) (name_is b.name b.among) ∙ ap (λ t. if t then Some b.name else None) (ap (λ k. nat_lt k (n + 1)) b.behind ∙ own_next n))
+
+  pub put_none : (n : ℕ) (found : List (Option DeclaredName)) → IsBegun table n None → AreBegun table n found → AreBegun table (n + 1) found
+  put_none n found none a = record { derived = a.derived; nodes = a.nodes; long = a.long; are = λ i within. begun_none n none i ∙ a.are i within }
 
   pub put_some : (n node : ℕ) (found : List (Option DeclaredName)) (b : Begins table n node) (x : DeclaredName) → rule_name (nodes_in table) node x ≡ b.name
       → AreBegun table n found → AreBegun table (n + 1) (slice_set found node (Some x))
   put_some n node found b x is a = record { derived = a.derived; nodes = a.nodes; long = length-set found node (Some x) ∙ a.long; are = λ i within. which i within (eqb_tells i node) }
     where
-      by : (i : ℕ) → (i ≡ node → ⊥) → (o : Option Name) → name_of (places_in table) i ≡ o → begun_at (n + 1) (name_of (places_in table) i) ≡ begun_at n (name_of (places_in table) i)
-      by i other None e = ap (begun_at (n + 1)) e ∙ sym (ap (begun_at n) e)
-      by i other (Some y) e =
-          let f = found_of i y e in
-          ap (begun_at (n + 1)) e ∙ (ap (λ t. if t then Some y else None) (next_less y.behind n (λ at. other (sym f.at ∙ (ap (λ (z : Name). z.node) (b.alone y f.among at) ∙ b.at)))) ∙ sym (ap (begun_at n) e))
-
       which : (i : ℕ) → i < length table → ((nat_eq i node ≡ true) × (i ≡ node)) ⊎ ((nat_eq i node ≡ false) × (i ≢ node))
           → begun_at (n + 1) (name_of (places_in table) i) ≡ option_map (rule_name (nodes_in table) i) (get_or (slice_set found node (Some x)) i None)
       which i within (inl (e, same)) =
-          ap (λ k. begun_at (n + 1) (name_of (places_in table) k)) (same ∙ sym b.at)
-          ∙ (ap (begun_at (n + 1)) (name_is b.name b.among)
-          ∙ (ap (λ t. if t then Some b.name else None) (ap (λ k. nat_lt k (n + 1)) b.behind ∙ own_next n)
+          ap (λ k. begun_at (n + 1) (name_of (places_in table) k)) same
+          ∙ (begun_own n node b
           ∙ (ap Some (sym is)
           ∙ (sym (ap (option_map (rule_name (nodes_in table) node)) (get_or-set_same found node (Some x) None (subst (λ k. node < k) (sym a.long) b.within)))
-          ∙ ap (λ k. option_map (rule_name (nodes_in table) k) (get_or (slice_set found node (Some x)) k None)) (sym same)))))
+          ∙ ap (λ k. option_map (rule_name (nodes_in table) k) (get_or (slice_set found node (Some x)) k None)) (sym same))))
       which i within (inr (e, other)) =
-          by i other (name_of (places_in table) i) refl ∙ (a.are i within ∙ ap (option_map (rule_name (nodes_in table) i)) (sym (get_or-set_other found node i (Some x) None other)))
+          begun_other n node b i other ∙ (a.are i within ∙ ap (option_map (rule_name (nodes_in table) i)) (sym (get_or-set_other found node i (Some x) None other)))
 
-  pub all_begun : (n : ℕ) (found : List (Option DeclaredName)) → length (nodes_in table) ≡ length table → length table ≤ n → AreBegun table n found → AreNames table found
-  all_begun n found long most a = record { long = a.long; are = λ i within. sym (by i (name_of (places_in table) i) refl) ∙ a.are i within }
+  -- behind the last node all have begun
+  pub begun_all : (n : ℕ) → length (nodes_in table) ≡ length table → length table ≤ n → (i : ℕ) → begun_at n (name_of (places_in table) i) ≡ name_of (places_in table) i
+  begun_all n long most i = by (name_of (places_in table) i) refl
     where
-      by : (i : ℕ) (o : Option Name) → name_of (places_in table) i ≡ o → begun_at n (name_of (places_in table) i) ≡ name_of (places_in table) i
-      by i None e = ap (begun_at n) e ∙ sym e
-      by i (Some x) e =
+      by : (o : Option Name) → name_of (places_in table) i ≡ o → begun_at n (name_of (places_in table) i) ≡ name_of (places_in table) i
+      by None e = ap (begun_at n) e ∙ sym e
+      by (Some x) e =
           let low = within_table x (found_of i x e).among long in
           ap (begun_at n) e ∙ (ap (λ t. if t then Some x else None) (so_less x.behind n (omega (arith, low, most))) ∙ sym e)
 
-  pub none_begun : length (nodes_in table) ≡ length table → AreBegun table 0 (replicate (length table) None)
-  none_begun nodes = record { derived = d; nodes = nodes; long = length-replicate (length table) None; are = λ i within. by (name_of (places_in table) i) ∙ ap (option_map (rule_name (nodes_in table) i)) (sym (get_or-replicate (length table) i None None within)) }
+  pub begun_first : (o : Option Name) → begun_at 0 o ≡ None
+  begun_first None = refl
+  begun_first (Some e) = ap (λ t. if t then Some e else None) (none_less e.behind)
     where
       none_less : (a : ℕ) → nat_lt a 0 ≡ false
       none_less a = grind arith
 
-      by : (o : Option Name) → begun_at 0 o ≡ None
-      by None = refl
-      by (Some e) = ap (λ t. if t then Some e else None) (none_less e.behind)
+  pub all_begun : (n : ℕ) (found : List (Option DeclaredName)) → length (nodes_in table) ≡ length table → length table ≤ n → AreBegun table n found → AreNames table found
+  all_begun n found long most a = record { long = a.long; are = λ i within. sym (begun_all n long most i) ∙ a.are i within }
+
+  pub none_begun : length (nodes_in table) ≡ length table → AreBegun table 0 (replicate (length table) None)
+  none_begun nodes = record { derived = d; nodes = nodes; long = length-replicate (length table) None; are = λ i within. begun_first (name_of (places_in table) i) ∙ ap (option_map (rule_name (nodes_in table) i)) (sym (get_or-replicate (length table) i None None within)) }
+
+  -- the name of a node that declares one
+  pub named_here : (n node : ℕ) (names : List (Option DeclaredName)) → AreNames table names → (b : Begins table n node) → (o : Option DeclaredName) → get_or names node None ≡ o → Some b.name ≡ option_map (rule_name (nodes_in table) node) o
+  named_here n node names a b o e = sym (ap (λ i. name_of (places_in table) i) (sym b.at) ∙ name_is b.name b.among) ∙ (a.are node b.within ∙ ap (option_map (rule_name (nodes_in table) node)) e)
 
   -- ---- a word that is a typedef name of a function type
 
@@ -157,7 +178,7 @@ module _ (table : List SynNode) (d : IsDerived table) where
       → rule_name s node x ≡ e
   same_name s node x e p0 p1 p2 p3 p4 p5 p6 = λ i. record { text = p0 i; node = p1 i; behind = p2 i; owner = p3 i; scope = p4 i; entity = p5 i; is_function = p6 i }
 
-  text_of : (e : Name) → Among e (places_in table).names → e.text ≡ text_at (nodes_in table) e.node
+  pub text_of : (e : Name) → Among e (places_in table).names → e.text ≡ text_at (nodes_in table) e.node
   unfolding places_in nodes_in
   text_of e i = (declared.labelled d.tokens (tree_in table) d.derived e i).text
 
@@ -245,7 +266,7 @@ module _ (table : List SynNode) (d : IsDerived table) where
         → scope_of x.scope ≡ scope_at (scopes_of (nodes_in table)) first
         → x.is_function ≡ declares_function (nodes_in table) (places_in table).names first (specs_of (nodes_in table) (node_at (nodes_in table) (node_at (nodes_in table) n).parent))
         → entity_by (nodes_in table) (node_at (nodes_in table) (node_at (nodes_in table) n).parent) (specs_of (nodes_in table) (node_at (nodes_in table) (node_at (nodes_in table) n).parent))
-            (scope_of x.scope) x.is_function (kind_at (nodes_in table) (node_at (nodes_in table) n).parent) ≡ Some (entity_of x.entity)
+        (scope_of x.scope) x.is_function (kind_at (nodes_in table) (node_at (nodes_in table) n).parent) ≡ Some (entity_of x.entity)
         → rule_name (nodes_in table) first x ≡ b.name
     declarator_is first b p x behind owner scope function entity =
         let same_function = function ∙ sym p.function in

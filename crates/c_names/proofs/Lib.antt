@@ -9,3 +9,4 @@ pub mod UseLaws
 pub mod NameLaws
 pub mod FoundLaws
 pub mod IndexLaws
+pub mod EarlierLaws

@@ -41,7 +41,7 @@ module _ (table : List SynNode) (d : IsDerived table) where
   unfolding nodes_in
   apart = ends_apart d.tokens (tree_in table) d.derived
 
-  ascend : Ascend (places_in table).names
+  pub ascend : Ascend (places_in table).names
   unfolding places_in
   ascend = declared.ascend d.tokens (tree_in table) d.derived
 

@@ -2,3 +2,4 @@ pub mod Texts
 pub mod Chains
 pub mod Denoted
 pub mod Names
+pub mod Earlier

@@ -19,12 +19,14 @@
 #![tactic(auto)]
 
 mod chain;
+mod declarations;
 mod names;
 mod scoped;
 mod texts;
 mod uses;
 mod words;
 
+pub use declarations::{Earlier, earlier_declarations};
 pub use names::{DeclaredName, Entity, declared_names};
 pub use scoped::ScopedNodes;
 pub use uses::denoted;

@@ -1,7 +1,7 @@
 // The nodes of a tree, each with its scope, its declarator and its text.
 ghost use Rattle.std.specs.Prelude.{◌≡◌, ◌<◌, ◌≤◌, List, IfOk, Some, false, length, true};
 ghost use Rattle.c_typing.specs.Places as places;
-ghost use Rattle.c_typing.specs.Places.{Node, index_in, kid, kind_at, node_at, numbers, other_kids, scope_at, scopes_of, specs_by, text_at};
+ghost use Rattle.c_typing.specs.Places.{Node, has_kid, index_in, kid, kind_at, node_at, numbers, other_kids, scope_at, scopes_of, specs_by, text_at};
 ghost use Rattle.c_typing.specs.Names.{Name, declares_function, says_function};
 ghost use Rattle.c_typing.specs.ShapesOfNodes.{in_table};
 ghost use Rattle.c_nodes.specs.Parents.{IsWithin};
@@ -142,6 +142,17 @@ impl<'a> ScopedNodes<'a> {
             self.nodes.kid(number, 0)
         } else {
             0
+        }
+    }
+
+    /// The node has a kid of this index.
+    pub(crate) fn has_kid(&self, number: usize, index: usize) -> bool
+        ensures { result ≡ has_kid (node_at (nodes_in self.now) number) index }
+    {
+        if number < self.nodes.len() {
+            self.nodes.has_kid(number, index)
+        } else {
+            false
         }
     }
 
