@@ -1,5 +1,5 @@
 -- The last of the names of one text in one scope, from node to node.
-use Rattle.std.proofs.Common.{◌≡◌, ◌≢◌, ◌⊎◌, inl, inr, ℕ, zero, suc, ◌+◌, ◌<◌, ◌≤◌, Bool, true, false, ◌&&◌, ◌||◌, cond, List, [], ◌∷◌, ◌++◌, length, replicate, Option, Some, None, refl, sym, ap, ◌∙◌, subst, arith, true≢false, get_or}
+use Rattle.std.proofs.Common.{◌≡◌, ◌≢◌, ◌⊎◌, inl, inr, ℕ, ◌+◌, ◌<◌, ◌≤◌, Bool, true, false, ◌&&◌, ◌||◌, cond, List, [], ◌∷◌, length, replicate, Option, Some, None, refl, sym, ap, ◌∙◌, subst, arith, true≢false, get_or}
 use Rattle.std.specs.Prelude.{slice_set, unwrap_or, nat_lt, nat_eq, filter, ◌==◌, if◌then◌else◌}
 use Rattle.std.specs.List.{AllByRecursion, last_or, list_any}
 use Rattle.std.specs.Map.{lookup}
@@ -11,7 +11,7 @@ use Rattle.indexmap.specs.IndexMap.{IndexMap}
 use Rattle.c_syntax.specs.declared.syntax.SynNode.{SynNode}
 use Rattle.c_typing.specs.Places.{has_kid, node_at}
 use Rattle.c_typing.specs.Names.{Name, earlier, is_initialized, name_of}
-use Rattle.c_typing.proofs.MadeAround.{find_is, equal_so, both_true, and_true}
+use Rattle.c_typing.proofs.MadeAround.{equal_so, both_true, and_true}
 use Rattle.c_nodes.specs.Parents.{nodes_in}
 use Rattle.c_names.specs.declared.declarations.Earlier.{Earlier}
 use Rattle.c_names.specs.declared.declarations.Key.{Key}

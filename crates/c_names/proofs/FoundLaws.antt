@@ -1,13 +1,12 @@
 -- The names that are found so far, from node to node.
-use Rattle.std.proofs.Common.{◌≡◌, ◌≢◌, ◌⊎◌, inl, inr, ℕ, zero, suc, ◌+◌, ◌<◌, ◌≤◌, Bool, true, false, ◌&&◌, cond, List, [], ◌∷◌, length, replicate, Option, Some, None, refl, sym, ap, ◌∙◌, subst, arith, true≢false, get_or, unwrap_or}
-use Rattle.std.specs.Prelude.{slice_set, slice_get, option_map, nat_lt, nat_eq, find, if◌then◌else◌, ◌==◌}
-use Rattle.std.specs.List.{AllByRecursion}
+use Rattle.std.proofs.Common.{◌≡◌, ◌≢◌, ◌⊎◌, inl, inr, ℕ, ◌+◌, ◌<◌, ◌≤◌, true, false, ◌&&◌, List, length, replicate, Option, Some, None, refl, sym, ap, ◌∙◌, subst, arith, true≢false, get_or}
+use Rattle.std.specs.Prelude.{slice_set, option_map, nat_lt, nat_eq, if◌then◌else◌, ◌==◌}
 use Rattle.std.proofs.lemmas.List.{get_or-set_same, get_or-set_other, get_or-replicate, length-replicate, length-set}
 use Rattle.std.proofs.lemmas.Bool.Decides.{eqb_tells}
 use Rattle.c_syntax.specs.declared.kind.SynKind.{SynKind}
 use Rattle.c_syntax.specs.declared.kind.SynKind.TheVariants as kind
 use Rattle.c_syntax.specs.declared.syntax.SynNode.{SynNode}
-use Rattle.c_typing.specs.Places.{Node, nodes, node_at, nowhere, kind_at, text_at, is_word, is_declarator, specs_by, specs_of, Scope, scopes_of, scope_at}
+use Rattle.c_typing.specs.Places.{Node, nodes, node_at, kind_at, text_at, is_word, is_declarator, specs_by, specs_of, scopes_of, scope_at}
 use Rattle.c_typing.specs.Names as rules
 use Rattle.c_typing.specs.Names.{Name, Entity, enumerator, places, denoted, name_of, entity_by, declares_function, says_function, is_typedef}
 use Rattle.c_typing.proofs.MadePlaced.{numbered}
@@ -20,12 +19,10 @@ use Rattle.c_nodes.specs.Scopes.{scope_of}
 use Rattle.c_nodes.proofs.DeclaratorLaws.{points_whole}
 use Rattle.c_nodes.proofs.ScopeLaws.{there_by_kind}
 use Rattle.c_names.specs.declared.names.DeclaredName.{DeclaredName}
-use Rattle.c_names.specs.declared.words.SpecWords.{SpecWords}
-use Rattle.c_names.specs.Denoted.{IsDerived, places_in, Among, Begins, IsBegun, is_enumerator, is_identifier, declares, AreDenoted, IsDenoted, node_of, is_use}
-use Rattle.c_names.specs.Names.{AreNames, AreBegun, AreWords, IsWords, begun_at, entity_of, rule_name, no_words, names_function_type, is_function_type}
+use Rattle.c_names.specs.Denoted.{IsDerived, places_in, Among, Begins, IsBegun, is_enumerator, is_identifier, declares, AreDenoted, node_of, is_use}
+use Rattle.c_names.specs.Names.{AreNames, AreBegun, begun_at, entity_of, rule_name, names_function_type, is_function_type}
 use Rattle.c_names.proofs.DeclaredLaws as declared
 use Rattle.c_names.proofs.DeclaredLaws.{to_in, from_in, Enumerates, Whole}
-use Rattle.c_names.proofs.NameLaws as name_laws
 use Rattle.c_names.proofs.NameLaws.{Declared, declared_at, behind_low, denoted_in}
 
 less_so : (a b : ℕ) → nat_lt a b ≡ true → a < b

@@ -1,12 +1,11 @@
 -- The index of a kid among all but the first.
-use Rattle.std.proofs.Common.{◌≡◌, ◌⊎◌, inl, inr, ℕ, zero, suc, ◌+◌, ◌-◌, ◌<◌, ◌≤◌, Bool, true, false, cond, List, [], ◌∷◌, length, Option, Some, None, refl, sym, ap, ◌∙◌, subst, arith, true≢false, unwrap_or, get_or, drop}
+use Rattle.std.proofs.Common.{◌≡◌, inl, inr, ℕ, suc, ◌+◌, ◌-◌, ◌<◌, Bool, true, false, cond, List, [], ◌∷◌, length, Option, Some, None, refl, sym, ap, ◌∙◌, subst, arith, unwrap_or, get_or, drop}
 use Rattle.std.specs.Prelude.{slice_get, ◌==◌, find, nat_lt, not}
 use Rattle.std.specs.List.{AllByRecursion, prefix_len}
 use Rattle.std.specs.Option.{is_some}
 use Rattle.std.proofs.Math.Seq.{drop-cons}
 use Rattle.c_syntax.specs.declared.syntax.SynId.{SynId}
 use Rattle.c_syntax.specs.declared.syntax.SynNode.{SynNode}
-use Rattle.c_syntax.specs.Trees.{Tree}
 use Rattle.c_typing.specs.Places.{Node, nodes, node_at, nowhere, index_in, other_kids, numbers}
 use Rattle.c_typing.proofs.MadeNodes.{In, in_at, ascending, Ascends}
 use Rattle.c_nodes.specs.Parents.{tree_in, nodes_in}

@@ -10,3 +10,4 @@ pub mod NameLaws
 pub mod FoundLaws
 pub mod IndexLaws
 pub mod EarlierLaws
+pub mod FunctionLaws

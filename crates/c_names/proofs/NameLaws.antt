@@ -1,6 +1,6 @@
 -- What a name is does not depend on the names behind it.
-use Rattle.std.proofs.Common.{◌≡◌, ◌⊎◌, inl, inr, ℕ, zero, suc, ◌+◌, ◌<◌, ◌≤◌, Bool, true, false, ◌&&◌, not, cond, List, [], ◌∷◌, ◌++◌, length, map, append_assoc, Option, Some, None, refl, sym, ap, ◌∙◌, subst, arith, true≢false, unwrap_or}
-use Rattle.std.specs.Prelude.{slice_get, get_or, filter, find, nat_le, nat_lt, ◌==◌, if◌then◌else◌}
+use Rattle.std.proofs.Common.{◌≡◌, ◌⊎◌, inl, inr, ℕ, zero, suc, ◌<◌, ◌≤◌, Bool, true, false, ◌&&◌, not, cond, List, [], ◌∷◌, ◌++◌, length, append_assoc, Option, Some, None, refl, sym, ap, ◌∙◌, subst, arith, true≢false, unwrap_or}
+use Rattle.std.specs.Prelude.{slice_get, filter, find, nat_le, nat_lt, if◌then◌else◌}
 use Rattle.std.specs.Option.{is_some}
 use Rattle.std.specs.Str.{bytes_eq}
 use Rattle.std.specs.List.{AllByRecursion}
@@ -72,7 +72,7 @@ filter_none {A} test (x ∷ xs) h = by (test x) refl (filter_none test xs (λ y 
     by true e more = absurd (h x (inl refl) e)
     by false e more = more
 
-filter_append : {A : Type 0} (test : A → Bool) (xs ys : List A) → filter test (xs ++ ys) ≡ filter test xs ++ filter test ys
+pub filter_append : {A : Type 0} (test : A → Bool) (xs ys : List A) → filter test (xs ++ ys) ≡ filter test xs ++ filter test ys
 filter_append test [] ys = refl
 filter_append {A} test (x ∷ xs) ys = by (test x) (filter_append test xs ys)
   where

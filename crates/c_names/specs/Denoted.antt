@@ -5,6 +5,8 @@ use Rattle.c_lexer.specs.declared.token.Token.{Token}
 use Rattle.c_syntax.specs.declared.kind.SynKind.{SynKind}
 use Rattle.c_syntax.specs.declared.kind.SynKind.TheVariants as kind
 use Rattle.c_syntax.specs.declared.syntax.SynNode.{SynNode}
+use Rattle.c_syntax.specs.Trees.{Tree}
+use Rattle.c_syntax.specs.Tables.{table_of}
 use Rattle.c_grammar.specs.Derivation.{IsTreeOf}
 use Rattle.c_typing.specs.Places.{kind_at, text_at, scopes_of, scope_at, no_scope}
 use Rattle.c_typing.specs.Names.{Places, places, Name, denoted}
@@ -17,7 +19,11 @@ use Rattle.c_names.specs.declared.chain.Entry.{Entry}
 use Rattle.c_names.specs.Chains.{IsEntered, IsVisible}
 use Rattle.c_names.specs.Texts.{AreTexts, first_of, has_name}
 
--- some tokens derive the tree of this table
+-- the table of a tree that some tokens derive
+abbrev pub IsOfTokens : List SynNode → Type 0
+IsOfTokens table = (tokens : List Token) × (t : Tree) × IsTreeOf tokens t × (table ≡ table_of t)
+
+-- the same of the tree that a table stands for
 pub record IsDerived (table : List SynNode) : Type 0 where
   pub tokens : List Token
   pub derived : IsTreeOf tokens (tree_in table)

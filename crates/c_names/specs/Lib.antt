@@ -3,3 +3,4 @@ pub mod Chains
 pub mod Denoted
 pub mod Names
 pub mod Earlier
+pub mod Functions

@@ -1,5 +1,5 @@
 -- What the nodes of a table declare.
-use Rattle.std.specs.Prelude.{◌≡◌, ℕ, ◌<◌, Bool, true, false, List, [], Option, Some, None, ◌&&◌, ◌||◌, codes, get_or, if◌then◌else◌, length, nat_lt, option_map}
+use Rattle.std.specs.Prelude.{◌≡◌, ℕ, ◌<◌, Bool, false, List, Option, Some, None, ◌&&◌, ◌||◌, codes, get_or, if◌then◌else◌, length, nat_lt, option_map}
 use Rattle.c_syntax.specs.declared.syntax.SynNode.{SynNode}
 use Rattle.c_typing.specs.Places.{Node, is_word, kind_at, node_at, text_at, says}
 use Rattle.c_typing.specs.Names as rules

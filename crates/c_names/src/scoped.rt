@@ -10,8 +10,9 @@ ghost use Rattle.c_nodes.specs.Declarators.{Points, whole_of};
 ghost use Rattle.c_nodes.specs.Parents.{nodes_in};
 ghost use Rattle.c_names.specs.Texts as texts;
 ghost use Rattle.c_names.specs.Texts.{first_of};
+ghost use Rattle.c_names.specs.Functions.{name_text};
 ghost use Rattle.c_names.specs.Denoted as denoted;
-ghost use Rattle.c_names.specs.Denoted.{IsBegun, IsDerived, IsScopeAt};
+ghost use Rattle.c_names.specs.Denoted.{IsBegun, IsDerived, IsOfTokens, IsScopeAt};
 
 use crate::texts::same_texts;
 use c_nodes::{Nodes, Span, innermost, next_parts, scopes, whole_declarators};
@@ -45,7 +46,7 @@ impl<'a> Model for ScopedNodes<'a> {
 impl<'a> ScopedNodes<'a> {
     /// The nodes of a tree that some tokens derive.
     pub fn of(alloc: Global, nodes: &'a Nodes<'a>) -> Result<ScopedNodes<'a>, AllocError>
-        requires { IsDerived nodes.now }
+        requires { IsOfTokens nodes.now }
         ensures { IfOk result (λ scoped. scoped ≡ nodes.now) }
     {
         let wholes = whole_declarators(alloc, nodes)?;
@@ -154,6 +155,16 @@ impl<'a> ScopedNodes<'a> {
         } else {
             false
         }
+    }
+
+    /// The first node with the name of a function that is defined.
+    pub(crate) fn function_text(&self, function: usize) -> usize
+        requires within { function < length self.now }
+        requires kind { places.is_function (kind_at (nodes_in self.now) function) ≡ true }
+        ensures is { first_of (nodes_in self.now) (name_text (nodes_in self.now) function) ≡ Some result }
+        ensures there { result < length self.now }
+    {
+        self.text(self.nodes.first(self.nodes.kid(function, 1)))
     }
 
     /// The specs of what a declarator belongs to.

@@ -1,4 +1,4 @@
-use Rattle.std.proofs.Common.{◌≡◌, ◌∙◌, ap, arith, refl, subst, sym, unwrap_or}
+use Rattle.std.proofs.Common.{ap, arith, subst, sym, unwrap_or}
 use Rattle.std.specs.Map.{lookup}
 use Rattle.c_names.specs.Earlier.{is_key, none_before}
 use Rattle.c_names.proofs.EarlierLaws.{AreNoted, latest_first, noted_first, noted_all, step}

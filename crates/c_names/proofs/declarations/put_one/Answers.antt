@@ -1,15 +1,13 @@
-use Rattle.std.proofs.Common.{◌≡◌, ◌<◌, ◌∙◌, ℕ, List, None, Option, Some, ap, get_or, refl, subst, sym}
+use Rattle.std.proofs.Common.{◌≡◌, ◌∙◌, ℕ, List, None, Option, Some, ap, get_or, refl, sym}
 use Rattle.std.specs.Prelude.{option_map, slice_set}
-use Rattle.std.specs.Map.{lookup}
 use Rattle.c_typing.specs.Places.{Node, has_kid, node_at, text_at}
 use Rattle.c_typing.specs.Names.{Name}
 use Rattle.c_nodes.specs.Parents.{nodes_in}
-use Rattle.c_names.specs.declared.declarations.Earlier.{Earlier}
 use Rattle.c_names.specs.declared.names.DeclaredName.{DeclaredName}
 use Rattle.c_names.specs.Texts.{first_of}
 use Rattle.c_names.specs.Denoted.{Begins}
 use Rattle.c_names.specs.Names.{rule_name}
-use Rattle.c_names.specs.Earlier.{is_key, nothing, noted, recorded, with_name}
+use Rattle.c_names.specs.Earlier.{noted, recorded, with_name}
 use Rattle.c_names.proofs.EarlierLaws.{recorded_here, recorded_other}
 use Rattle.c_names.proofs.FoundLaws.{named_here, some_same, text_of}
 use Rattle.c_names.proofs.declarations.put_one.Goals as goal

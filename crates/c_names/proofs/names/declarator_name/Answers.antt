@@ -1,11 +1,11 @@
-use Rattle.std.proofs.Common.{◌≡◌, ◌<◌, ◌∙◌, ap, arith, false, refl, subst, sym, get_or, length}
+use Rattle.std.proofs.Common.{◌≡◌, ◌<◌, ◌∙◌, ap, arith, refl, subst, sym, get_or, length}
 use Rattle.c_typing.specs.Places.{kind_at, node_at, specs_by, specs_of}
 use Rattle.c_typing.specs.Names.{entity_by}
 use Rattle.c_nodes.specs.Parents.{nodes_in}
 use Rattle.c_nodes.specs.Scopes.{scope_of}
 use Rattle.c_names.specs.Denoted.{declares, places_in}
 use Rattle.c_names.specs.Names.{IsWords, no_words}
-use Rattle.c_names.proofs.FoundLaws.{Parts, parts, declarator_is}
+use Rattle.c_names.proofs.FoundLaws.{parts, declarator_is}
 use Rattle.c_names.proofs.names.declarator_name.Goals as goal
 
 pub specs-requires : goal.specs-requires

@@ -1,6 +1,5 @@
-use Rattle.std.proofs.Common.{◌≡◌, Some, ap, sym, ◌∙◌}
-use Rattle.c_syntax.specs.declared.kind.SynKind.TheVariants as kind
-use Rattle.c_typing.specs.Places.{node_at, index_in, other_kids, kind_at}
+use Rattle.std.proofs.Common.{Some, ap, sym, ◌∙◌}
+use Rattle.c_typing.specs.Places.{node_at, index_in, other_kids}
 use Rattle.c_typing.specs.Names.{entity_by, parameter}
 use Rattle.c_nodes.specs.Parents.{nodes_in}
 use Rattle.c_nodes.specs.Scopes.{scope_of}

@@ -1,4 +1,3 @@
-use Rattle.std.proofs.Common.{◌≡◌, ◌∙◌, ap, sym}
 use Rattle.c_names.proofs.names.name_at.Goals as goal
 
 pub returns-then-is_enumerator : goal.returns-then-is_enumerator

@@ -1,4 +1,3 @@
-use Rattle.std.proofs.Common.{◌≡◌, ◌<◌, subst}
 use Rattle.c_names.specs.Denoted.{Begins}
 use Rattle.c_names.proofs.FoundLaws.{put_some, put_none}
 use Rattle.c_names.proofs.names.put_name.Goals as goal

@@ -1,10 +1,9 @@
-use Rattle.std.proofs.Common.{◌≡◌, ◌<◌, ◌&&◌, ◌∙◌, None, ap, arith, get_or, length, subst, sym, true}
+use Rattle.std.proofs.Common.{◌&&◌, ◌∙◌, ap, sym}
 use Rattle.c_typing.specs.Names as rules
-use Rattle.c_typing.specs.Places.{is_word, kind_at, text_at}
+use Rattle.c_typing.specs.Places.{is_word, text_at}
 use Rattle.c_typing.specs.Names.{denoted}
 use Rattle.c_nodes.specs.Parents.{nodes_in}
 use Rattle.c_names.specs.Denoted.{places_in}
-use Rattle.c_names.specs.Names.{names_function_type}
 use Rattle.c_names.proofs.FoundLaws.{word_names}
 use Rattle.c_names.proofs.words.is_function_word.Goals as goal
 

@@ -1,4 +1,4 @@
-use Rattle.std.proofs.Common.{◌≡◌, ◌-◌, ◌∙◌, ap, sym}
+use Rattle.std.proofs.Common.{◌-◌, ◌∙◌, ap, sym}
 use Rattle.c_typing.specs.Places.{index_in, node_at, parent_of}
 use Rattle.c_nodes.specs.Parents.{nodes_in}
 use Rattle.c_names.proofs.IndexLaws.{other_kid}
