@@ -19,7 +19,8 @@
 // initialized. `function_numbers`: `function_number`.
 //
 // `texts` numbers texts, `scoped` has the nodes with their scopes, `chain` the names of one text, and `uses` what uses denote;
-// `words` has what specifiers say, `names` what nodes declare, and `declarations` what declares a name before; `functions` numbers the functions.
+// `words` has what specifiers say, `names` what nodes declare, `declarations` what declares a name before, and `functions`
+// the numbers of functions.
 //
 // Source: C99 6.2.1 to 6.2.4, 6.7.
 #![tactic(auto)]

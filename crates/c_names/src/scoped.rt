@@ -6,7 +6,7 @@ ghost use Rattle.c_typing.specs.Names.{Name, declares_function, says_function};
 ghost use Rattle.c_typing.specs.ShapesOfNodes.{in_table};
 ghost use Rattle.c_nodes.specs.Parents.{IsWithin};
 ghost use Rattle.c_nodes.specs.Scopes.{scope_of};
-ghost use Rattle.c_nodes.specs.Declarators.{Points, whole_of};
+ghost use Rattle.c_nodes.specs.Declarators.{AreNext, AreWholes, Points, whole_of};
 ghost use Rattle.c_nodes.specs.Parents.{nodes_in};
 ghost use Rattle.c_names.specs.Texts as texts;
 ghost use Rattle.c_names.specs.Texts.{first_of};
@@ -51,6 +51,20 @@ impl<'a> ScopedNodes<'a> {
     {
         let wholes = whole_declarators(alloc, nodes)?;
         let next = next_parts(alloc, nodes)?;
+        ScopedNodes::with_declarators(alloc, nodes, wholes, next)
+    }
+
+    fn with_declarators(
+        alloc: Global,
+        nodes: &'a Nodes<'a>,
+        wholes: Vec<usize>,
+        next: Vec<usize>,
+    ) -> Result<ScopedNodes<'a>, AllocError>
+        requires tokens { IsOfTokens nodes.now }
+        requires wholes { AreWholes nodes.now wholes.items }
+        requires next { AreNext nodes.now next.items }
+        ensures { IfOk result (λ scoped. scoped ≡ nodes.now) }
+    {
         let scopes = scopes(alloc, nodes, &wholes, &next)?;
         let inner = innermost(alloc, &scopes, nodes.len())?;
         let texts = same_texts(alloc, nodes)?;
