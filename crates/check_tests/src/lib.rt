@@ -2,10 +2,12 @@
 //
 // They call what these crates make public, and nothing else. The expected values are worked by hand.
 //
-// `nodes` has the nodes of a tree, its declarators and its scopes (`c_nodes`), `values` types by their ids, values and
-// operators (`c_type_ids`, `c_constants`, `c_values`).
+// `nodes` has the nodes of a tree, its declarators and its scopes (`c_nodes`), `names` what its names denote and declare
+// (`c_names`), `values` types by their ids, values and operators (`c_type_ids`, `c_constants`, `c_values`).
 #![tactic(auto)]
 
+#[cfg(test)]
+mod names;
 #[cfg(test)]
 mod nodes;
 #[cfg(test)]

@@ -1,0 +1,13 @@
+pub mod ChainLaws
+pub mod StandLaws
+pub mod DeclaredLaws
+pub mod EndLaws
+pub mod TableLaws
+pub mod PutLaws
+pub mod TextLaws
+pub mod UseLaws
+pub mod NameLaws
+pub mod FoundLaws
+pub mod IndexLaws
+pub mod EarlierLaws
+pub mod FunctionLaws
