@@ -57,8 +57,8 @@ pub data Leads (g : Firm) : ℕ → ℕ → Type 0 where
   onward : {n last : ℕ} → (next : ℕ) → IsOperand g n next → Leads g next last → Leads g n last
 
 -- ---- 4: in each block the nodes that take memory form one chain, in which each but the first takes what the one before gives;
--- the first, and where there is none the block's end and its successors, take the memory that comes along the walk. This asks nothing
--- of a block from which no path leads to what takes memory.
+-- the first, and where there is none the block's end and its successors, take the memory that comes along the walk. A block has at
+-- most one Phi of memory, which is what it sees. This asks nothing of a block from which no path leads to what takes memory.
 
 -- the node that gives a memory; that of a tuple is given by the tuple
 abbrev pub giver_by : NodeOp → List ℕ → ℕ → ℕ
@@ -234,6 +234,8 @@ pub record IsClosed (p : Program) : Type 0 where
 
 -- The operands of a Phi are itself and at most one other value; so it may have none, or itself alone. Braun, Buchwald, Hack, Leißa,
 -- Mallon and Zwinkau, Simple and Efficient Construction of Static Single Assignment Form (2013), 2.2.
+abbrev pub HasOnly : FirmNode → ℕ → ℕ → Type 0
+HasOnly node n other = (index operand : ℕ) → slice_get node.operands index ≡ Some operand → (operand ≡ n) ⊎ (operand ≡ other)
+
 abbrev pub IsTrivial : Firm → ℕ → Type 0
-IsTrivial g n = (node : FirmNode) × (node_at g n ≡ Some node) × (is_phi node.op ≡ true)
-    × ((only : ℕ) × ((index operand : ℕ) → slice_get node.operands index ≡ Some operand → (operand ≡ n) ⊎ (operand ≡ only)))
+IsTrivial g n = (node : FirmNode) × (node_at g n ≡ Some node) × (is_phi node.op ≡ true) × ((other : ℕ) × HasOnly node n other)

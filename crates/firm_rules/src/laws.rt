@@ -8,7 +8,7 @@ ghost use Rattle.ssa_core.specs.Walks.{Walk, end, IsWalk, Visits, along};
 ghost use Rattle.firm_rules.specs.declared.node.NodeId.{NodeId};
 ghost use Rattle.firm_rules.specs.Graphs.{FirmNode, Firm, Program};
 ghost use Rattle.firm_rules.specs.Lookups.{node_at, node_id, mode_at, first_of, IsBlock, shape};
-ghost use Rattle.firm_rules.specs.Rules.{is_phi, acts_in, takes_from, chain, ComesTo, Obeys, IsClosed, IsWhole};
+ghost use Rattle.firm_rules.specs.Rules.{is_phi, acts_in, takes_from, chain, ComesTo, Obeys, IsClosed, IsWhole, HasOnly};
 ghost use Rattle.firm_rules.specs.Frames.{Frame, first_frame, word_by, word_within, word_at};
 ghost use Rattle.firm_rules.specs.Runs.{Cause, no_main, no_status, bad_access, no_value, came, stuck, Result, stops, store_of, Runs, run, FirmRan, firm_run, RunsProgram};
 ghost use Rattle.firm_rules.specs.Replacing.{IsRenamed, Pairs};
@@ -96,8 +96,9 @@ pub fn chain_is_in_order()
         → i ≡ j }
 {}
 
-/// At each point that a call comes to, each node has the word that what it means on the walk had at its visit. Where the rules
-/// hold, the blocks that the call has entered are a walk. And what the run from the point comes to, the run of the call comes to.
+/// At each point that a call comes to, each node has the word that what it means on the walk had at its visit; of the present
+/// visit that is its word now, which a node that takes memory gets when it acts. Where the rules hold, the blocks that the call
+/// has entered are a walk. And what the run from the point comes to, the run of the call comes to.
 pub fn words_agree()
     ensures words { (p : Program) (w : World) (g : Firm) (arguments : List ℕ) (start : Store) (walk : Walk) (nodes : List ℕ) (f : Frame) (h : History) (s : Store) (v : NodeId)
         → Comes p w g arguments start walk nodes f h s
@@ -121,7 +122,7 @@ pub fn trivial_phi()
         → Obeys g
         → node_at g n ≡ Some node
         → is_phi node.op ≡ true
-        → ((index operand : ℕ) → slice_get node.operands index ≡ Some operand → (operand ≡ n) ⊎ (operand ≡ other))
+        → HasOnly node n other
         → IsWalk (shape g) walk
         → ((w : Walk) → ComesTo g w (end (shape g) walk) → Visits (shape g) w node.block)
         → along (shape g) walk (node_id n) ≡ along (shape g) walk (node_id other) }
@@ -129,7 +130,7 @@ pub fn trivial_phi()
         → Obeys g
         → node_at g n ≡ Some node
         → is_phi node.op ≡ true
-        → ((index operand : ℕ) → slice_get node.operands index ≡ Some operand → (operand ≡ n) ⊎ (operand ≡ other))
+        → HasOnly node n other
         → Comes p w g arguments start walk nodes f h s
         → ((u : Walk) → ComesTo g u (end (shape g) walk) → Visits (shape g) u node.block)
         → word_at w.base g (end (shape g) walk) f n ≡ word_at w.base g (end (shape g) walk) f other }
@@ -137,7 +138,7 @@ pub fn trivial_phi()
         → Obeys g
         → node_at g n ≡ Some node
         → is_phi node.op ≡ true
-        → ((index operand : ℕ) → slice_get node.operands index ≡ Some operand → (operand ≡ n) ⊎ (operand ≡ other))
+        → HasOnly node n other
         → other ≢ n
         → IsReplaced (shape g) t (node_id n) (node_id other)
         → IsWalk (shape g) walk
@@ -154,7 +155,7 @@ pub fn replacing_keeps()
         → IsWhole g
         → node_at g old ≡ Some node
         → is_phi node.op ≡ true
-        → ((index operand : ℕ) → slice_get node.operands index ≡ Some operand → (operand ≡ old) ⊎ (operand ≡ other))
+        → HasOnly node old other
         → other ≢ old
         → mode_at g other ≡ mode_at g old
         → IsRenamed g h old other
@@ -163,7 +164,7 @@ pub fn replacing_keeps()
         → Obeys g
         → node_at g old ≡ Some node
         → is_phi node.op ≡ true
-        → ((index operand : ℕ) → slice_get node.operands index ≡ Some operand → (operand ≡ old) ⊎ (operand ≡ other))
+        → HasOnly node old other
         → other ≢ old
         → IsRenamed g h old other
         → Pairs g h p.graphs q.graphs
