@@ -1,0 +1,5 @@
+pub mod RefusalLaws
+pub mod LengthLaws
+pub mod QuestionLaws
+pub mod StepLaws
+pub mod BuildLaws
