@@ -3,3 +3,4 @@ pub mod LengthLaws
 pub mod QuestionLaws
 pub mod StepLaws
 pub mod BuildLaws
+pub mod WordLaws

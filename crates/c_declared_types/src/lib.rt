@@ -20,6 +20,7 @@ mod lengths;
 mod questions;
 mod refusal;
 mod steps;
+mod words;
 
 pub use built::build;
 pub use lengths::{enumerator_after, enumerator_value, length_of};
@@ -29,3 +30,7 @@ pub use questions::{
 };
 pub use refusal::Refusal;
 pub use steps::{PlacedStep, Step, Steps};
+pub use words::{
+    Base, Given, Length, Said, Sign, SpecsPlace, SpecsWords, Storage, StorageWord, TypeWords,
+    is_bad_storage, type_of_specs,
+};
