@@ -4,3 +4,5 @@ pub mod QuestionLaws
 pub mod StepLaws
 pub mod BuildLaws
 pub mod WordLaws
+pub mod MemberLaws
+pub mod ParameterLaws

@@ -14,3 +14,7 @@ IsFirst refusal.OutOfMemory faults = Unit {0}
 abbrev pub Settles : {A : Type 0} → (A → Type 0) → Result A Refusal → List Fault → Type 0
 Settles P (Ok a) faults = (faults ≡ []) × P a
 Settles P (Err refused) faults = IsFirst refused faults
+
+-- the same where nothing is answered but that there is no fault
+abbrev pub Allows : {A : Type 0} → Result A Refusal → List Fault → Type 0
+Allows found faults = Settles (λ a. Unit {0}) found faults

@@ -1,5 +1,6 @@
 // What is asked of a declarator by its type.
 ghost use Rattle.std.specs.Prelude.{◌≡◌, ℕ, true, false, List, [], ◌∷◌, Some, None, IfOk, IfSome, IfNone, if◌then◌else◌, bytes_eq, codes};
+ghost use Rattle.c_types.specs.Sizes.{IsSized};
 ghost use Rattle.c_typing.specs.Types as types;
 ghost use Rattle.c_typing.specs.Types.{CType, Layout};
 ghost use Rattle.c_typing.specs.Rules as faults;
@@ -15,8 +16,9 @@ use std::alloc::{AllocError, Global};
 /// The type has no size (rule 5).
 pub fn is_incomplete(table: &TypeTable, kind: Type) -> bool
     requires { (t : CType) × IsType table.now kind t }
-    ensures { (ls : List Layout) (t : CType) (n : ℕ) → AreLaid table.now ls → IsType table.now kind t →
+    ensures is { (ls : List Layout) (t : CType) (n : ℕ) → AreLaid table.now ls → IsType table.now kind t →
         faults.incomplete_type ls t n ≡ faults.broken_if result 5 n }
+    ensures sized { (id : TypeId) → kind ≡ Type.Known id → result ≡ false → IsSized table.now.table id }
 {
     match kind {
         Type::Known(id) => table.size(id).is_none(),

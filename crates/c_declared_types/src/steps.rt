@@ -17,9 +17,9 @@ pub enum Step {
 }
 
 #[derive(Drop)]
-pub struct PlacedStep {
-    pub node: usize,
-    pub step: Step,
+pub(crate) struct PlacedStep {
+    pub(crate) node: usize,
+    pub(crate) step: Step,
 }
 
 /// The steps of a declarator; the last one takes the type of the specs.

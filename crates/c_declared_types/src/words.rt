@@ -14,7 +14,7 @@ use c_type_ids::{Integer, TypeTable};
 use c_types::TypeId;
 
 #[derive(Clone, Copy, Debug, PartialEq, Eq)]
-pub enum Base {
+pub(crate) enum Base {
     Void,
     Bool,
     Char,
@@ -22,13 +22,13 @@ pub enum Base {
 }
 
 #[derive(Clone, Copy, Debug, PartialEq, Eq)]
-pub enum Length {
+pub(crate) enum Length {
     Short,
     Long,
 }
 
 #[derive(Clone, Copy, Debug, PartialEq, Eq)]
-pub enum Sign {
+pub(crate) enum Sign {
     Signed,
     Unsigned,
 }
@@ -76,7 +76,7 @@ fn word_of(text: &str) -> Word
 
 /// The words for types, in any order: at most one of each sort, or words that name no type together.
 #[derive(Clone, Copy, Debug, PartialEq, Eq)]
-pub struct TypeWords {
+pub(crate) struct TypeWords {
     base: Option<Base>,
     length: Option<Length>,
     sign: Option<Sign>,
@@ -85,7 +85,7 @@ pub struct TypeWords {
 
 /// The type that words name.
 #[derive(Clone, Copy, Debug, PartialEq, Eq)]
-pub enum Said {
+pub(crate) enum Said {
     Void,
     Integer(Integer),
 }
