@@ -6,26 +6,26 @@ use Rattle.c_typing.specs.Rules as rules
 use Rattle.c_typing.specs.Declarators.{count_of, is_storage, said_type}
 use Rattle.c_type_ids.specs.Integers.{integer_of}
 use Rattle.c_type_ids.specs.Ids.{Known, Names}
-use Rattle.c_declared_types.specs.declared.words.Base.{Base}
-use Rattle.c_declared_types.specs.declared.words.Base.TheVariants as base
-use Rattle.c_declared_types.specs.declared.words.Length.{Length}
-use Rattle.c_declared_types.specs.declared.words.Length.TheVariants as size
-use Rattle.c_declared_types.specs.declared.words.Sign.{Sign}
-use Rattle.c_declared_types.specs.declared.words.Sign.TheVariants as sign
-use Rattle.c_declared_types.specs.declared.words.StorageWord.{StorageWord}
-use Rattle.c_declared_types.specs.declared.words.StorageWord.TheVariants as storage
-use Rattle.c_declared_types.specs.declared.words.Word.{Word}
-use Rattle.c_declared_types.specs.declared.words.Word.TheVariants as word
-use Rattle.c_declared_types.specs.declared.words.TypeWords.{TypeWords}
-use Rattle.c_declared_types.specs.declared.words.Said.{Said}
-use Rattle.c_declared_types.specs.declared.words.Said.TheVariants as said
-use Rattle.c_declared_types.specs.declared.words.Storage.{Storage}
-use Rattle.c_declared_types.specs.declared.words.Storage.TheVariants as stored
-use Rattle.c_declared_types.specs.declared.words.SpecsPlace.{SpecsPlace}
-use Rattle.c_declared_types.specs.declared.words.SpecsPlace.TheVariants as place
-use Rattle.c_declared_types.specs.declared.words.SpecsWords.{SpecsWords}
-use Rattle.c_declared_types.specs.declared.words.Given.{Given}
-use Rattle.c_declared_types.specs.declared.words.Given.TheVariants as given
+use Rattle.c_declared_types.specs.declared.type_words.Base.{Base}
+use Rattle.c_declared_types.specs.declared.type_words.Base.TheVariants as base
+use Rattle.c_declared_types.specs.declared.type_words.Length.{Length}
+use Rattle.c_declared_types.specs.declared.type_words.Length.TheVariants as size
+use Rattle.c_declared_types.specs.declared.type_words.Sign.{Sign}
+use Rattle.c_declared_types.specs.declared.type_words.Sign.TheVariants as sign
+use Rattle.c_declared_types.specs.declared.storage.StorageWord.{StorageWord}
+use Rattle.c_declared_types.specs.declared.storage.StorageWord.TheVariants as storage
+use Rattle.c_declared_types.specs.declared.specs_words.Word.{Word}
+use Rattle.c_declared_types.specs.declared.specs_words.Word.TheVariants as word
+use Rattle.c_declared_types.specs.declared.type_words.TypeWords.{TypeWords}
+use Rattle.c_declared_types.specs.declared.type_words.Said.{Said}
+use Rattle.c_declared_types.specs.declared.type_words.Said.TheVariants as said
+use Rattle.c_declared_types.specs.declared.storage.Storage.{Storage}
+use Rattle.c_declared_types.specs.declared.storage.Storage.TheVariants as stored
+use Rattle.c_declared_types.specs.declared.storage.SpecsPlace.{SpecsPlace}
+use Rattle.c_declared_types.specs.declared.storage.SpecsPlace.TheVariants as place
+use Rattle.c_declared_types.specs.declared.specs_words.SpecsWords.{SpecsWords}
+use Rattle.c_declared_types.specs.declared.specs_words.Given.{Given}
+use Rattle.c_declared_types.specs.declared.specs_words.Given.TheVariants as given
 
 -- ---- texts
 

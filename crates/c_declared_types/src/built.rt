@@ -1,5 +1,5 @@
 // The type of a declarator: built from the specs' type inwards (C99 6.7.5).
-ghost use Rattle.std.specs.Prelude.{◌≡◌, ℕ, List, [], IfOk};
+ghost use Rattle.std.specs.Prelude.{◌≡◌, ℕ, List, [], IfOk, Ok};
 ghost use Rattle.c_types.specs.Sizes.{IsSized};
 ghost use Rattle.c_types.specs.Tables.{IsThere};
 ghost use Rattle.c_typing.specs.Types.{CType, Layout, array, function};
@@ -24,6 +24,7 @@ pub fn build(table: &mut TypeTable, base: TypeId, steps: Steps) -> Result<Type, 
     requires steps { (ss : List rules.PlacedStep) × AreSteps table.old steps ss }
     ensures is { (ls : List Layout) (t : CType) (ss : List rules.PlacedStep) → AreLaid table.old ls → Names table.old base t → AreSteps table.old steps ss →
         IsBuilt table.new result (declarators.build ls t ss) }
+    ensures there { (id : TypeId) → result ≡ Ok (Type.Known id) → IsThere table.new.table id }
     ensures grows { Grows table.old table.new }
 {
     let id = built_on(table, base, steps.outer)?;
@@ -36,8 +37,9 @@ pub fn build(table: &mut TypeTable, base: TypeId, steps: Steps) -> Result<Type, 
 // The type of an array whose initializer is to give its length, and of which these are the elements.
 fn without_length(table: &TypeTable, node: usize, id: TypeId) -> Result<Type, Refusal>
     requires { IsThere table.now.table id }
-    ensures { (ls : List Layout) (t : CType) → AreLaid table.now ls → Names table.now id t →
+    ensures is { (ls : List Layout) (t : CType) → AreLaid table.now ls → Names table.now id t →
         IsBuilt table.now result (declarators.stepped_type ls rules.of_unsized node t) }
+    ensures lengthless { IfOk result (λ kind. kind ≡ Type.Unsized id) }
 {
     match table.size(id) {
         Some(_) => Ok(Type::Unsized(id)),

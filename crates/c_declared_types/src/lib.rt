@@ -10,7 +10,7 @@
 // The theorem, on each function: for every value of the rules that the given ones are, the answer is that of the definition in
 // `c_typing`; a refusal is the first fault of its list (`Settles` of `specs/Refusals.antt`).
 //
-// `words` has the words of specs and the types that they name, `steps` the steps of declarators, `built` their types,
+// `type_words` has the words for types, `storage` the storage words, `specs_words` all words of specs, `steps` the steps of declarators, `built` their types,
 // `parameters` those of functions, `lengths` the lengths of arrays and the values of enumerators, `members` the members of
 // structs, `questions` what is asked of a declarator by its type, and `refusal` the refusals.
 //
@@ -23,8 +23,10 @@ mod members;
 mod parameters;
 mod questions;
 mod refusal;
+mod specs_words;
 mod steps;
-mod words;
+mod storage;
+mod type_words;
 
 pub use built::build;
 pub use lengths::{enumerator_after, enumerator_value, length_of};
@@ -35,7 +37,6 @@ pub use questions::{
     is_incomplete_object, is_incomplete_parameter,
 };
 pub use refusal::Refusal;
+pub use specs_words::{Given, SpecsWords, type_of_specs};
 pub use steps::{Step, Steps};
-pub use words::{
-    Given, SpecsPlace, SpecsWords, Storage, StorageWord, is_bad_storage, type_of_specs,
-};
+pub use storage::{SpecsPlace, Storage, StorageWord, is_bad_storage};

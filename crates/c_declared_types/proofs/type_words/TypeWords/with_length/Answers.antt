@@ -1,7 +1,7 @@
 use Rattle.std.proofs.Common.{◌++◌, ◌∷◌, [], sym, subst}
 use Rattle.c_declared_types.specs.Words.{Says, length_text}
 use Rattle.c_declared_types.proofs.WordLaws.{length_added, length_twice}
-use Rattle.c_declared_types.proofs.words.TypeWords.with_length.Goals as goal
+use Rattle.c_declared_types.proofs.type_words.TypeWords.with_length.Goals as goal
 
 pub returns-in-None : goal.returns-in-None
 returns-in-None c = λ words h. length_added c.args.self words h c.args.length c.in-None.is

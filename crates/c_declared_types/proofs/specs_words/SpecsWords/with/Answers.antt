@@ -3,7 +3,7 @@ use Rattle.c_grammar.specs.Vocabulary.{is_type_word}
 use Rattle.c_typing.specs.Declarators.{is_storage}
 use Rattle.c_declared_types.specs.Words.{base_text, length_text, sign_text, storage_text}
 use Rattle.c_declared_types.proofs.WordLaws.{type_added, storage_added, nothing_added, base_word, length_word, sign_word, storage_word}
-use Rattle.c_declared_types.proofs.words.SpecsWords.with.Goals as goal
+use Rattle.c_declared_types.proofs.specs_words.SpecsWords.with.Goals as goal
 
 pub returns-in-Base : goal.returns-in-Base
 returns-in-Base c = λ words h.

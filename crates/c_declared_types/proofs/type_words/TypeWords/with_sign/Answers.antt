@@ -1,7 +1,7 @@
 use Rattle.std.proofs.Common.{◌++◌, ◌∷◌, [], sym, subst}
 use Rattle.c_declared_types.specs.Words.{Says, sign_text}
 use Rattle.c_declared_types.proofs.WordLaws.{sign_added, sign_twice}
-use Rattle.c_declared_types.proofs.words.TypeWords.with_sign.Goals as goal
+use Rattle.c_declared_types.proofs.type_words.TypeWords.with_sign.Goals as goal
 
 pub returns-in-None : goal.returns-in-None
 returns-in-None c = λ words h. sign_added c.args.self words h c.args.sign c.in-None.is

@@ -1,7 +1,7 @@
 use Rattle.std.proofs.Common.{◌++◌, ◌∷◌, [], sym, subst}
 use Rattle.c_declared_types.specs.Words.{Says, base_text}
 use Rattle.c_declared_types.proofs.WordLaws.{base_added, base_twice}
-use Rattle.c_declared_types.proofs.words.TypeWords.with_base.Goals as goal
+use Rattle.c_declared_types.proofs.type_words.TypeWords.with_base.Goals as goal
 
 pub returns-in-None : goal.returns-in-None
 returns-in-None c = λ words h. base_added c.args.self words h c.args.base c.in-None.is

@@ -2,7 +2,7 @@ use Rattle.std.proofs.Common.{[], sym}
 use Rattle.c_typing.specs.Declarators.{said_type}
 use Rattle.c_declared_types.specs.Words.{said_of}
 use Rattle.c_declared_types.proofs.WordLaws.{no_type, some_said}
-use Rattle.c_declared_types.proofs.words.type_of_words.Goals as goal
+use Rattle.c_declared_types.proofs.specs_words.type_of_words.Goals as goal
 
 pub returns-in-Some-clause-is : goal.returns-in-Some-clause-is
 returns-in-Some-clause-is c = λ texts h.

@@ -11,7 +11,7 @@ use Rattle.c_type_ids.proofs.MeasureLaws.{names_there}
 use Rattle.c_declared_types.specs.Refusals.{Settles}
 use Rattle.c_declared_types.specs.Words.{AreGiven}
 use Rattle.c_declared_types.proofs.WordLaws.{said_many, no_type}
-use Rattle.c_declared_types.proofs.words.type_of_specs.Goals as goal
+use Rattle.c_declared_types.proofs.specs_words.type_of_specs.Goals as goal
 
 pub returns-in-None-clause-is : goal.returns-in-None-clause-is
 returns-in-None-clause-is c = λ texts ts words given.

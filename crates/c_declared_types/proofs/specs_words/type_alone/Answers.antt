@@ -1,7 +1,7 @@
 use Rattle.std.proofs.Common.{◌∷◌, [], ◌∙◌, sym}
 use Rattle.c_typing.specs.Declarators.{said_type}
 use Rattle.c_declared_types.proofs.WordLaws.{said_one, said_not, no_type, a_type_said}
-use Rattle.c_declared_types.proofs.words.type_alone.Goals as goal
+use Rattle.c_declared_types.proofs.specs_words.type_alone.Goals as goal
 
 pub returns-then-is_empty-clause-is : goal.returns-then-is_empty-clause-is
 returns-then-is_empty-clause-is c = λ k texts t says named.

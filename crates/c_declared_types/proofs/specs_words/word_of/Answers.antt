@@ -1,5 +1,5 @@
 use Rattle.c_declared_types.proofs.WordLaws.{no_type_word, no_storage}
-use Rattle.c_declared_types.proofs.words.word_of.Goals as goal
+use Rattle.c_declared_types.proofs.specs_words.word_of.Goals as goal
 
 pub returns-in_default : goal.returns-in_default
 returns-in_default c =
