@@ -2,7 +2,11 @@
 use Rattle.std.proofs.Common.{◌≡◌, ◌++◌, ℕ, List, [], ◌∷◌, Option, Some, None, refl, ap}
 use Rattle.c_typing.specs.Judgements as rules
 use Rattle.c_type_ids.specs.Ids.{Known, Keeps}
-use Rattle.c_type_ids.proofs.IdLaws.{all_grow}
+use Rattle.c_type_ids.proofs.IdLaws.{all_grow, names_grow}
+use Rattle.c_typing.specs.Types.{CType}
+use Rattle.c_declared_types.specs.declared.specs_words.Given.{Given}
+use Rattle.c_declared_types.specs.declared.specs_words.Given.TheVariants as given
+use Rattle.c_declared_types.specs.Words.{AreGiven}
 use Rattle.c_declared_types.specs.declared.steps.Step.{Step}
 use Rattle.c_declared_types.specs.declared.steps.Step.TheVariants as step
 use Rattle.c_declared_types.specs.declared.steps.PlacedStep.{PlacedStep}
@@ -70,3 +74,9 @@ from_grows old new g (Some n) outer (r ∷ rs) (e, h) = (e, placed_grow old new 
 
 pub steps_grow : (old new : Known) → Keeps old new → (ss : Steps) (rs : List rules.PlacedStep) → AreSteps old ss rs → AreSteps new ss rs
 steps_grow old new g ss rs h = from_grows old new g ss.without_length ss.outer.items rs h
+
+-- and so do the types among specs
+pub given_grow : (old new : Known) → Keeps old new → (g : Given) (ts : List CType) → AreGiven old g ts → AreGiven new g ts
+given_grow old new g given.None ts h = h
+given_grow old new g (given.One id) ts (t, e, named) = (t, e, names_grow old new g.types g.structs id t named)
+given_grow old new g given.Many ts h = h
