@@ -1,0 +1,8 @@
+use Rattle.std.proofs.Common.{◌≡◌, ◌∷◌, ◌-◌, ◌^◌, [], min, ap, arith}
+use Rattle.c_typing.specs.Judgements as rules
+use Rattle.c_declared_types.proofs.refusal.too_big.Goals as goal
+
+pub returns : goal.returns
+returns c =
+    let limited : min c.args.size (2 ^ 64 - 1) ≡ c.args.size = omega (arith, c.ranges.size.fits) in
+    ([], ap (λ s. rules.too_big c.args.node s ∷ []) limited)

@@ -1,0 +1,4 @@
+pub mod Refusals
+pub mod Steps
+pub mod Words
+pub mod Members
