@@ -19,11 +19,11 @@ use Rattle.c_type_ids.proofs.TableLaws.{grows_on, grows_same}
 use Rattle.c_type_ids.proofs.MeasureLaws.{names_there, measured_is}
 use Rattle.c_values.specs.declared.typings.«Type».{«Type» as TypeForm}
 use Rattle.c_values.specs.declared.typings.«Type».TheVariants as type
-use Rattle.c_declared_types.specs.declared.refusal.Refusal.{Refusal}
-use Rattle.c_declared_types.specs.declared.refusal.Refusal.TheVariants as refusal
+use Rattle.c_answers.specs.declared.refusal.Refusal.{Refusal}
+use Rattle.c_answers.specs.declared.refusal.Refusal.TheVariants as refusal
 use Rattle.c_declared_types.specs.declared.steps.Step.TheVariants as step
 use Rattle.c_declared_types.specs.declared.steps.PlacedStep.{PlacedStep as CodeStep}
-use Rattle.c_declared_types.specs.Refusals.{IsFirst, Settles}
+use Rattle.c_answers.specs.Answers.{IsFirst, Settles}
 use Rattle.c_declared_types.specs.Steps.{IsStep, ArePlaced, AreFrom, IsBuilt, IsBuiltId}
 use Rattle.c_declared_types.proofs.StepLaws.{last_step, step_grows}
 

@@ -1,4 +1,3 @@
-pub mod RefusalLaws
 pub mod LengthLaws
 pub mod QuestionLaws
 pub mod StepLaws

@@ -25,8 +25,8 @@ use Rattle.c_declared_types.specs.declared.storage.StorageWord.TheVariants as st
 use Rattle.c_declared_types.specs.declared.storage.Storage.{Storage}
 use Rattle.c_declared_types.specs.declared.specs_words.SpecsWords.{SpecsWords}
 use Rattle.c_declared_types.specs.declared.type_words.TypeWords.{TypeWords}
-use Rattle.c_declared_types.specs.declared.refusal.Refusal.{Refusal}
-use Rattle.c_declared_types.specs.Refusals.{Settles}
+use Rattle.c_answers.specs.declared.refusal.Refusal.{Refusal}
+use Rattle.c_answers.specs.Answers.{Settles}
 use Rattle.c_declared_types.proofs.CountLaws.{Texts, NoRow, one_if, count_append, count_cons, count_self, in_middle, names_none, entered, said_same}
 use Rattle.c_declared_types.specs.Words.{base_text, length_text, sign_text, one_or_none, texts_in, AreSame, NameNone, SaysBy, Says, AreWords, IsStorage, storage_text}
 

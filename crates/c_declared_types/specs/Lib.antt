@@ -1,4 +1,3 @@
-pub mod Refusals
 pub mod Steps
 pub mod Words
 pub mod Members

@@ -6,8 +6,8 @@ use Rattle.c_types.specs.declared.kind.TypeId.{TypeId}
 use Rattle.c_type_ids.specs.Ids.{Known, Names, NamesAll}
 use Rattle.c_values.specs.declared.typings.«Type».{«Type» as TypeForm}
 use Rattle.c_values.specs.Typings.{IsType}
-use Rattle.c_declared_types.specs.declared.refusal.Refusal.{Refusal}
-use Rattle.c_declared_types.specs.Refusals.{Settles}
+use Rattle.c_answers.specs.declared.refusal.Refusal.{Refusal}
+use Rattle.c_answers.specs.Answers.{Settles}
 use Rattle.c_declared_types.specs.declared.steps.Step.{Step}
 use Rattle.c_declared_types.specs.declared.steps.Step.TheVariants as step
 use Rattle.c_declared_types.specs.declared.steps.PlacedStep.{PlacedStep}

@@ -9,10 +9,10 @@ ghost use Rattle.c_typing.specs.Rules as faults;
 ghost use Rattle.c_typing.specs.Declarators as declarators;
 ghost use Rattle.c_type_ids.specs.Ids.{AreLaid, Grows, Names, NamesAll};
 ghost use Rattle.c_values.specs.Typings.{IsType};
-ghost use Rattle.c_declared_types.specs.Refusals.{Settles};
+ghost use Rattle.c_answers.specs.Answers.{Settles};
 ghost use Rattle.c_declared_types.specs.Steps.{ArePlaced, AreSteps, IsBuilt, IsBuiltId, IsStep};
 
-use crate::refusal::{Refusal, too_big};
+use c_answers::{Refusal, too_big};
 use crate::steps::{PlacedStep, Step, Steps};
 use c_type_ids::{Kind, TypeTable};
 use c_types::{TypeFault, TypeId, TypeList};

@@ -7,9 +7,9 @@ ghost use Rattle.c_typing.specs.Declarators as declarators;
 ghost use Rattle.c_constants.specs.Constants.{constant_of};
 ghost use Rattle.c_values.specs.Typings.{IsType};
 ghost use Rattle.c_values.specs.Operators.{IsOperand};
-ghost use Rattle.c_declared_types.specs.Refusals.{Settles};
+ghost use Rattle.c_answers.specs.Answers.{Settles};
 
-use crate::refusal::Refusal;
+use c_answers::Refusal;
 use c_constants::Constant;
 use c_type_ids::{Kind, TypeTable, traits_of};
 use c_values::{Operand, Shown, Type, kind_of};

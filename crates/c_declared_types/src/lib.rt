@@ -8,11 +8,11 @@
 // into a hashed set.
 //
 // The theorem, on each function: for every value of the rules that the given ones are, the answer is that of the definition in
-// `c_typing`; a refusal is the first fault of its list (`Settles` of `specs/Refusals.antt`).
+// `c_typing`; a refusal is the first fault of its list (`Settles` of `c_answers`).
 //
 // `type_words` has the words for types, `storage` the storage words, `specs_words` all words of specs, `steps` the steps of declarators, `built` their types,
 // `parameters` those of functions, `lengths` the lengths of arrays and the values of enumerators, `members` the members of
-// structs, `questions` what is asked of a declarator by its type, and `refusal` the refusals.
+// structs, and `questions` what is asked of a declarator by its type.
 //
 // Source: C99 6.7.
 #![tactic(auto)]
@@ -22,7 +22,6 @@ mod lengths;
 mod members;
 mod parameters;
 mod questions;
-mod refusal;
 mod specs_words;
 mod steps;
 mod storage;
@@ -36,7 +35,6 @@ pub use questions::{
     agree, is_array_or_struct, is_bad_library_name, is_bad_main, is_incomplete,
     is_incomplete_object, is_incomplete_parameter,
 };
-pub use refusal::Refusal;
 pub use specs_words::{Given, SpecsWords, type_of_specs};
 pub use steps::{Step, Steps};
 pub use storage::{SpecsPlace, Storage, StorageWord, is_bad_storage};

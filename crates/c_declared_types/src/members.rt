@@ -7,10 +7,10 @@ ghost use Rattle.c_typing.specs.Types.{Field, Layout};
 ghost use Rattle.c_typing.specs.Rules as faults;
 ghost use Rattle.c_typing.specs.Declarators as declarators;
 ghost use Rattle.c_type_ids.specs.Ids.{AreLaid, AreMembers, IsClosedBy};
-ghost use Rattle.c_declared_types.specs.Refusals.{Allows};
+ghost use Rattle.c_answers.specs.Answers.{Allows};
 ghost use Rattle.c_declared_types.specs.Members.{named_by, named_in, texts_of};
 
-use crate::refusal::{Refusal, too_big};
+use c_answers::{Refusal, too_big};
 use c_type_ids::TypeTable;
 use c_types::{StructId, TypeFault, TypeId};
 use cp_base::Name;

@@ -8,9 +8,9 @@ ghost use Rattle.c_typing.specs.Types as types;
 ghost use Rattle.c_typing.specs.Rules as faults;
 ghost use Rattle.c_typing.specs.Declarators as declarators;
 ghost use Rattle.c_type_ids.specs.Ids.{Grows, Names, NamesAll};
-ghost use Rattle.c_declared_types.specs.Refusals.{Allows};
+ghost use Rattle.c_answers.specs.Answers.{Allows};
 
-use crate::refusal::Refusal;
+use c_answers::Refusal;
 use c_type_ids::{Kind, TypeTable};
 use c_types::TypeId;
 use std::alloc::AllocError;

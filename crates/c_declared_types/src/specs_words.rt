@@ -6,10 +6,10 @@ ghost use Rattle.c_typing.specs.Types.{CType, void};
 ghost use Rattle.c_typing.specs.Declarators.{is_storage, said_type};
 ghost use Rattle.c_typing.specs.Rules as faults;
 ghost use Rattle.c_type_ids.specs.Ids.{Grows, Known, Names};
-ghost use Rattle.c_declared_types.specs.Refusals.{Settles};
+ghost use Rattle.c_answers.specs.Answers.{Settles};
 ghost use Rattle.c_declared_types.specs.Words.{AreGiven, AreWords, IsStorage, IsWord, Says, said_of};
 
-use crate::refusal::Refusal;
+use c_answers::Refusal;
 use crate::storage::{Storage, StorageWord};
 use crate::type_words::{Base, Length, Said, Sign, TypeWords};
 use c_type_ids::TypeTable;

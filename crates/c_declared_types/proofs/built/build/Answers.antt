@@ -1,6 +1,6 @@
 use Rattle.c_typing.specs.Declarators.{build}
 use Rattle.c_values.specs.Typings.{IsType}
-use Rattle.c_declared_types.proofs.RefusalLaws.{handed_on}
+use Rattle.c_answers.proofs.AnswerLaws.{handed_on}
 use Rattle.std.proofs.Common.{◌≡◌, ◌∙◌, sym, subst}
 use Rattle.std.specs.Prelude.{Result, Ok, Err, IfOk}
 use Rattle.c_types.specs.declared.kind.TypeId.{TypeId}

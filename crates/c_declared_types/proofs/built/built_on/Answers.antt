@@ -1,7 +1,7 @@
 use Rattle.std.proofs.Common.{arith}
 use Rattle.c_typing.specs.Declarators.{build}
 use Rattle.c_type_ids.specs.Ids.{Names}
-use Rattle.c_declared_types.proofs.RefusalLaws.{handed_on}
+use Rattle.c_answers.proofs.AnswerLaws.{handed_on}
 use Rattle.c_type_ids.proofs.TableLaws.{grows_on}
 use Rattle.c_declared_types.proofs.BuildLaws.{next_some, after, refused, at_last, empty}
 use Rattle.c_declared_types.proofs.built.built_on.Goals as goal

@@ -1,6 +1,6 @@
 use Rattle.std.proofs.Common.{◌∙◌, sym, ap, subst}
 use Rattle.std.specs.Prelude.{Err}
-use Rattle.c_declared_types.specs.Refusals.{IsFirst}
+use Rattle.c_answers.specs.Answers.{IsFirst}
 use Rattle.c_declared_types.proofs.BuildLaws.{array_fits, array_too_big}
 use Rattle.c_declared_types.proofs.built.limited_array_of.Goals as goal
 

@@ -1,7 +1,7 @@
 use Rattle.std.proofs.Common.{[], sym, subst}
 use Rattle.c_typing.specs.Types.{pointer}
 use Rattle.c_type_ids.specs.Ids.{Names}
-use Rattle.c_declared_types.specs.Refusals.{Settles}
+use Rattle.c_answers.specs.Answers.{Settles}
 use Rattle.c_declared_types.proofs.BuildLaws.{incomplete, complete}
 use Rattle.c_declared_types.proofs.built.parameter_of.Goals as goal
 

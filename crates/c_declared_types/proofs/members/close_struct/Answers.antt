@@ -1,7 +1,7 @@
 use Rattle.std.proofs.Common.{◌∙◌, sym, ap, subst}
 use Rattle.std.specs.Prelude.{Err}
 use Rattle.c_typing.specs.Declarators.{layout}
-use Rattle.c_declared_types.specs.Refusals.{IsFirst}
+use Rattle.c_answers.specs.Answers.{IsFirst}
 use Rattle.c_declared_types.proofs.MemberLaws.{size_fits, size_too_big}
 use Rattle.c_declared_types.proofs.members.close_struct.Goals as goal
 

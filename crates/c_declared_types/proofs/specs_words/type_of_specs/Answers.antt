@@ -8,7 +8,7 @@ use Rattle.c_typing.specs.Declarators.{said_type}
 use Rattle.c_typing.specs.Rules.{bad_type_words}
 use Rattle.c_type_ids.specs.Ids.{Known, Names}
 use Rattle.c_type_ids.proofs.MeasureLaws.{names_there}
-use Rattle.c_declared_types.specs.Refusals.{Settles}
+use Rattle.c_answers.specs.Answers.{Settles}
 use Rattle.c_declared_types.specs.Words.{AreGiven}
 use Rattle.c_declared_types.proofs.WordLaws.{said_many, no_type}
 use Rattle.c_declared_types.proofs.specs_words.type_of_specs.Goals as goal

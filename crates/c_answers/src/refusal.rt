@@ -1,7 +1,7 @@
-// Why a declaration is refused.
+// Why a node is refused.
 ghost use Rattle.std.specs.Prelude.{◌∷◌, ◌-◌, ◌^◌, [], min};
 ghost use Rattle.c_typing.specs.Judgements as rules;
-ghost use Rattle.c_declared_types.specs.Refusals.{IsFirst};
+ghost use Rattle.c_answers.specs.Answers.{IsFirst};
 
 use std::alloc::AllocError;
 
@@ -16,7 +16,7 @@ pub enum Refusal {
 
 impl From<AllocError> for Refusal {
     ghost use Rattle.std.specs.Prelude.{◌≡◌};
-    ghost use Rattle.c_declared_types.specs.declared.refusal.Refusal.TheVariants.{OutOfMemory};
+    ghost use Rattle.c_answers.specs.declared.refusal.Refusal.TheVariants.{OutOfMemory};
 
     ghost from_gives = { λ _ refusal. refusal ≡ OutOfMemory };
 
@@ -25,8 +25,8 @@ impl From<AllocError> for Refusal {
     }
 }
 
-/// A size that is told.
-pub(crate) fn too_big(node: usize, size: u64) -> Refusal
+/// A type at this node has this size, which is above the limit.
+pub fn too_big(node: usize, size: u64) -> Refusal
     ensures { IsFirst result (rules.too_big node (min size (2 ^ 64 - 1)) ∷ []) }
 {
     Refusal::TooBig { node, size }

@@ -1,6 +1,6 @@
 use Rattle.std.proofs.Common.{◌≡◌, ◌∷◌, ◌-◌, ◌^◌, [], min, ap, arith}
 use Rattle.c_typing.specs.Judgements as rules
-use Rattle.c_declared_types.proofs.refusal.too_big.Goals as goal
+use Rattle.c_answers.proofs.refusal.too_big.Goals as goal
 
 pub returns : goal.returns
 returns c =
