@@ -12,7 +12,7 @@ use Rattle.c_typing.specs.Conversions.{value_of}
 use Rattle.c_typing.specs.Rules.{bad_conversion, not_constant_for, out_of_range, bad_initializer, declared_twice, size_fault, absent_length, is_constant_for}
 use Rattle.c_typing.specs.Expressions.{expression, literal}
 use Rattle.c_typing.specs.Declarators.{type_before}
-use Rattle.c_typing.specs.Initializers.{Part, part, part_of, part_offset, moved, scalar_part, value_part, braced_part, part_by, part_for, kid_part, too_many, init_around, is_static_name, count_in, braces_for, braces_by, braces, fills, target, string, completed_faults, completed, given_count, initialized_object, is_object, init_by, init_declarator, bare_code}
+use Rattle.c_typing.specs.Initializers.{Part, part, part_of, part_offset, moved, scalar_part, value_part, braced_part, part_by, part_for, kid_part, too_many, init_around, is_static_name, count_in, braces_for, braces_by, braces, fills, target, string, literal_faults, completed_faults, completed, given_count, initialized_object, is_object, init_by, init_declarator, bare_code}
 use Rattle.c_typing.specs.Typing.{function_node, unit_node}
 use Rattle.c_typing.proofs.BoundsBase.{AllProper, ConstantIn, JudgedIn, both_in, rule_in, size_in, range_in, means_in, breaks_in, verdict_in, besides_in, given_in, AllIn, typing_in, value_in}
 use Rattle.c_typing.proofs.BoundsDeclarators.{choice}
@@ -107,7 +107,7 @@ module _ (N : ℕ) (p : Places) (js : List Judgement) (nodes : (k : ℕ) → (no
   module _ (node : Node) (own : node.id < N) (kids : (i : ℕ) → kid node i < N) (names : (n : ℕ) (e : Name) → name_of p n ≡ Some e → e.node < N) where
     pub string_in : JudgedIn N (string p js node)
     unfolding string
-    string_in = choice N (fills (target p js node.id)) _ _ (means_in N fills_array tt) (means_in N (expression (literal p js node.label.bytes)) tt)
+    string_in = choice N (fills (target p js node.id)) _ _ (means_in N fills_array tt) (verdict_in N (literal_faults node) (expression (literal p js node.label.bytes)) (size_in N _ node.id own) tt)
 
     pub braces_in : JudgedIn N (braces p js node)
     unfolding braces braces_for

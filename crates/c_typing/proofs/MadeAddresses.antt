@@ -23,7 +23,7 @@ use Rattle.c_typing.specs.Conversions.{valued, value_of, result, Operator, opera
 use Rattle.c_typing.specs.Rules.{bad_initializer}
 use Rattle.c_typing.specs.Constants.{operated, chosen_constant, binary_constant, cast_constant, part_at, address_constant}
 use Rattle.c_typing.specs.Expressions.{literal, expression, type_of_name, word_of_enumerator, field_of, no_field, element_typing, variable_by, variable, prefix_step, postfix_step, subscript_constant, subscript, called, call_by, member_typing, dot, arrow, address_operator, dereference, sign_typing, sign_operator, not_operator, unary, measured_type, cast, operator_with, binary_by, binary_operator, conditional, comma, assignment, compound_by, assign}
-use Rattle.c_typing.specs.Initializers.{braces_by, target, string, Part, part_for, kid_part, is_static_name, init_around, count_in, braces_for, braces, initialized_object, init_by, init_declarator, is_object, bare_code}
+use Rattle.c_typing.specs.Initializers.{braces_by, target, fills, literal_faults, string, Part, part_for, kid_part, is_static_name, init_around, count_in, braces_for, braces, initialized_object, init_by, init_declarator, is_object, bare_code}
 use Rattle.c_typing.specs.Shapes as category
 use Rattle.c_typing.specs.ShapesOfNodes.{category_at}
 use Rattle.c_typing.specs.Typing.{in_parentheses, choice_node, judged_by, judgements_at, data_of, object_of, cells_in, declarations_of, literal_object, literals_of, unit_in}
@@ -83,7 +83,7 @@ module _ (tokens : List Token) (t : Tree) (derived : IsTreeOf tokens t) (ok : Cl
 
     string_row : node.label.kind ≡ kind.Str → Yields (Holds (length js)) (string (places t) js node)
     unfolding string
-    string_row e = search (yields_if, filled, text_end)
+    string_row e = yields_if (Holds (length js)) (fills (target (places t) js node.id)) _ _ filled (yields_verdict (Holds (length js)) (literal_faults node) _ (text_end e))
 
     entity_row : node.label.kind ≡ kind.Var → (e : Name) → denoted (places t).names node.id node.label.text ≡ Some e → (y : Entity) → e.entity ≡ y → Yields (Holds (length js)) (variable_by (places t) js node e y)
     unfolding variable_by

@@ -17,7 +17,7 @@ use Rattle.c_typing.proofs.MadeStatements.{is_expression_kind}
 module _ (P : Meaning → Type 0) (free : (m : Meaning) → is_active m ≡ false → P m) (all : (x : Typing) (h : ℕ) → P (expresses x h)) (p : Places) (js : List Judgement) (node : Node) (paren : node.label.kind ≡ kind.Paren → Yields P (in_parentheses p js node (typing_at js (kid node 0)))) where
   string_row : Yields P (string p js node)
   unfolding string
-  string_row = search (yields_if, free, all)
+  string_row = search (yields_if, yields_verdict, free, all)
 
   entity_row : (e : Name) (y : Entity) → Yields P (variable_by p js node e y)
   unfolding variable_by

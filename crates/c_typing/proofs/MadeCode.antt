@@ -21,7 +21,7 @@ use Rattle.c_typing.specs.Judgements.{Callee, reads_input, writes_output, calls,
 use Rattle.c_typing.specs.Conversions.{valued, value_of, result_form, result, converted_to, converted_code, Operator, operator_of, scaled}
 use Rattle.c_typing.specs.Rules.{wrong_number}
 use Rattle.c_typing.specs.Expressions.{hidden_before, hidden_for, literals_before, literal, callee_of, type_of_name, word_of_enumerator, variable_by, variable, step_operator, stepped, written, written_before, prefix_step, postfix_step, element_typing, subscript, arguments, passed, first_or, call_code, called, call_by, member_form, field_of, no_field, member_typing, dot, arrow, address_operator, dereference, number_of_type, minus_one, sign_typing, sign_operator, not_operator, unary, measured_type, cast, binary_code, binary_by, binary_operator, conditional, comma, assigned_code, assignment, compound_new, compound_by, assign, expression}
-use Rattle.c_typing.specs.Initializers.{string}
+use Rattle.c_typing.specs.Initializers.{string, fills, target, literal_faults}
 use Rattle.c_typing.specs.Typing.{in_parentheses, choice_node, call_node, cast_node, judged_by, judgements_at}
 use Rattle.c_typing.proofs.MadeJudged.{Yields, yields_verdict, yields_besides, yields_given, IsFront, Known, meant_later}
 use Rattle.c_typing.proofs.MadeNodes.{In}
@@ -147,7 +147,7 @@ module _ (t : Tree) (P : Expr → Type 0) (R : Stmt → Type 0) (C N : ℕ → T
 
     string_row : node.label.kind ≡ kind.Str → Yields (Holds (length js)) (string (places t) js node)
     unfolding string
-    string_row e = search (yields_if, filled, text_end)
+    string_row e = yields_if (Holds (length js)) (fills (target (places t) js node.id)) _ _ filled (yields_verdict (Holds (length js)) (literal_faults node) _ (text_end e))
 
     entity_row : node.label.kind ≡ kind.Var → (e : Name) → denoted (places t).names node.id node.label.text ≡ Some e → (y : Entity) → e.entity ≡ y → Yields (Holds (length js)) (variable_by (places t) js node e y)
     unfolding variable_by

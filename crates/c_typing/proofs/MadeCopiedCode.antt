@@ -15,7 +15,7 @@ use Rattle.c_typing.specs.Judgements.{Callee, Form, value, in_local, in_memory, 
 use Rattle.c_typing.specs.Conversions.{value_of, result, result_type, choice_type, Operator, operator_of, is_castable}
 use Rattle.c_typing.specs.Rules.{function_as_value, not_a_function}
 use Rattle.c_typing.specs.Expressions.{type_of_name, word_of_enumerator, literal, variable_by, variable, prefix_step, postfix_step, element_type, element_typing, subscript, called, call_by, member_form, field_of, no_field, dot, arrow, address_operator, dereference, sign_typing, sign_operator, not_operator, unary, measured_type, cast, binary_by, binary_operator, conditional, comma, assignment, compound_by, assign, expression}
-use Rattle.c_typing.specs.Initializers.{string}
+use Rattle.c_typing.specs.Initializers.{string, fills, target, literal_faults}
 use Rattle.c_typing.specs.Typing.{in_parentheses, choice_node, judged_by, judgements_at, faults}
 use Rattle.c_typing.proofs.ProgressDeclared.{begins_before}
 use Rattle.c_typing.proofs.MadeJudged.{Yields, yields_verdict, yields_besides, yields_given, IsFront, Known, all_known}
@@ -86,7 +86,7 @@ module _ (tokens : List Token) (t : Tree) (derived : IsTreeOf tokens t) (quiet :
 
     string_row : Yields Q (string (places t) js node)
     unfolding string
-    string_row = search (yields_if, filled, text_end)
+    string_row = yields_if Q (fills (target (places t) js node.id)) _ _ filled (yields_verdict Q (literal_faults node) _ text_end)
 
     before : (e : Name) → denoted (places t).names node.id node.label.text ≡ Some e → e.behind < length js
     before e d =

@@ -7,8 +7,8 @@ use Rattle.c_syntax.specs.declared.kind.SynKind.TheVariants as kind
 use Rattle.c_typing.specs.Types.{CType, Layout, is_text_array, is_array, is_struct, is_scalar}
 use Rattle.c_typing.specs.Places.{Node, kid, parent_of, index_in, node_at, kind_at, is_string}
 use Rattle.c_typing.specs.Names.{Places, Name}
-use Rattle.c_typing.specs.Judgements.{initial, expresses, fills_array, means, breaks_rules, waits, Judgement, Typing, judgement_at, typing_of, typing_at, layouts, type_at}
-use Rattle.c_typing.specs.Initializers.{Part, part_of, part_offset, moved, value_part, braced_part, part_by, part_for, kid_part, declared_object, target_by, target_within, target, fills, string}
+use Rattle.c_typing.specs.Judgements.{Fault, initial, expresses, fills_array, means, verdict, breaks_rules, waits, Judgement, Typing, judgement_at, typing_of, typing_at, layouts, type_at}
+use Rattle.c_typing.specs.Initializers.{Part, part_of, part_offset, moved, value_part, braced_part, part_by, part_for, kid_part, declared_object, target_by, target_within, target, fills, string, literal_faults}
 use Rattle.c_typing.specs.Expressions.{expression, literal}
 use Rattle.c_typing.specs.Typing.{judged_by}
 use Rattle.c_typing.specs.Shapes as category
@@ -149,9 +149,13 @@ module _ (p : Places) (js : List Judgement) where
       is_fill (means fills_array) = true
       is_fill j = false
 
-      by : (b : Bool) → (if b then means fills_array else means (expression (literal p js node.label.bytes))) ≡ means fills_array → b ≡ true
+      no_fill : (fs : List Fault) (x : Typing) → is_fill (verdict fs (expression x)) ≡ false
+      no_fill [] x = refl
+      no_fill (f ∷ fs) x = refl
+
+      by : (b : Bool) → (if b then means fills_array else verdict (literal_faults node) (expression (literal p js node.label.bytes))) ≡ means fills_array → b ≡ true
       by true e = refl
-      by false e = absurd (true≢false (sym (ap is_fill e)))
+      by false e = absurd (true≢false (sym (ap is_fill e) ∙ no_fill (literal_faults node) (literal p js node.label.bytes)))
 
   pub filled_type : (n : ℕ) → fills (target p js n) ≡ true → (t : CType) × (target p js n ≡ Some t) × (is_text_array t ≡ true)
   filled_type n e = by (target p js n) refl e

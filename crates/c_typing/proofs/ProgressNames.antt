@@ -9,7 +9,7 @@ use Rattle.c_typing.specs.Places.{Node, kid, has_kid, node_at}
 use Rattle.c_typing.specs.Names.{Places, Name, Entity, typedef_name, function_name, static_object, automatic, parameter, enumerator, is_static, name_of}
 use Rattle.c_typing.specs.Judgements.{callee, no_constant, rule, Fault, initial, initialized, fills_array, Judgement, means, verdict, type_at, judgement_at, layouts}
 use Rattle.c_typing.specs.Expressions.{is_called, callee_of, type_of_name, word_of_enumerator, variable_by, variable, expression, number_of_type, literal}
-use Rattle.c_typing.specs.Initializers.{is_object, target, fills, string, part_for, kid_part, too_many, init_around, is_static_name, braces_for, braces_by, braces, initialized_object, init_by, init_declarator, bare_code}
+use Rattle.c_typing.specs.Initializers.{is_object, target, fills, string, literal_faults, part_for, kid_part, too_many, init_around, is_static_name, braces_for, braces_by, braces, initialized_object, init_by, init_declarator, bare_code}
 use Rattle.c_typing.specs.Shapes as category
 use Rattle.c_typing.specs.Shapes.{Category}
 use Rattle.c_typing.proofs.ProgressBase.{Settles, settled, verdict_settles, besides_settles, given_settles, AllThere, all_there}
@@ -61,7 +61,7 @@ module _ (outer : SynKind) (level : ℕ) where
   unfolding string
   string_settles p js node h =
       cases (fits outer kind.Str (category.expression level)) (fills (target p js node.id)) _ _ (λ e. settled (fits outer kind.Str (category.expression level)) (means fills_array) (h e))
-      (λ e. settled (fits outer kind.Str (category.expression level)) (means (expression (literal p js node.label.bytes))) refl)
+      (λ e. verdict_settles (fits outer kind.Str (category.expression level)) (literal_faults node) (expression (literal p js node.label.bytes)) refl)
 
 -- the parts of braces for an object of this type
 abbrev pub HasParts : Places → List Judgement → Node → CType → Type 0

@@ -76,8 +76,12 @@ abbrev pub fills : Option CType → Bool
 fills None = false
 fills (Some t) = is_text_array t
 
+-- the array that a literal is may be above the limit
+abbrev pub literal_faults : Node → List Fault
+literal_faults node = size_fault (length node.label.bytes + 1) node.id
+
 unfoldable pub string : Places → List Judgement → Node → Judgement
-string p js node = if fills (target p js node.id) then means fills_array else means (expression (literal p js node.label.bytes))
+string p js node = if fills (target p js node.id) then means fills_array else verdict (literal_faults node) (expression (literal p js node.label.bytes))
 
 -- ---- the cells of a static object
 
