@@ -25,7 +25,7 @@ pub fn length_of(
     ensures { (x : rules.Typing) → IsOperand table.now length x →
         Settles (λ w. w ≡ declarators.word_in x.constant) result (declarators.length_faults x length_node node) }
 {
-    let word = word_of(length.constant, length_node)?;
+    let word = constant_word(length.constant, length_node)?;
     if is_bad_length(table, length.kind, word) {
         return Err(Refusal::Broken { rule: 7, node });
     }
@@ -39,7 +39,7 @@ pub fn enumerator_value(table: &TypeTable, value: Operand, node: usize) -> Resul
         Settles (λ w. w ≡ declarators.word_in x.constant) result
         (faults.not_constant x.constant node ++ faults.out_of_range x.constant ++ faults.no_int x.type x.constant node) }
 {
-    let word = word_of(value.constant, node)?;
+    let word = constant_word(value.constant, node)?;
     if is_no_int(table, value.kind, word) {
         return Err(Refusal::Broken { rule: 9, node });
     }
@@ -58,8 +58,8 @@ pub fn enumerator_after(before: Option<u32>, node: usize) -> Result<u32, Refusal
     }
 }
 
-// The word of an integer constant that stands at this node.
-fn word_of(constant: Constant, node: usize) -> Result<u32, Refusal>
+/// The word of an integer constant that stands at this node.
+pub fn constant_word(constant: Constant, node: usize) -> Result<u32, Refusal>
     ensures { (c : rules.Constant) → constant_of constant ≡ c →
         Settles (λ w. c ≡ rules.number w) result (faults.not_constant c node ++ faults.out_of_range c) }
 {

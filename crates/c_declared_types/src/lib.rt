@@ -28,7 +28,7 @@ mod storage;
 mod type_words;
 
 pub use built::build;
-pub use lengths::{enumerator_after, enumerator_value, length_of};
+pub use lengths::{constant_word, enumerator_after, enumerator_value, length_of};
 pub use members::{check_names, close_struct};
 pub use parameters::{adjusted, check_parameters};
 pub use questions::{

@@ -1,0 +1,3 @@
+pub mod ReturnLaws
+pub mod LabelLaws
+pub mod GroupLaws
