@@ -1,0 +1,3 @@
+pub mod OwnerLaws
+pub mod CountLaws
+pub mod NumberLaws
