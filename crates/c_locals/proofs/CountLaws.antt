@@ -50,7 +50,7 @@ and_yes : (a b : Bool) → b ≡ true → (a && b) ≡ a
 and_yes true b e = e
 and_yes false b e = refl
 
-filter_none : (test : Name → Bool) (xs : List Name) → ((x : Name) → Among x xs → test x ≡ false) → filter test xs ≡ []
+pub filter_none : (test : Name → Bool) (xs : List Name) → ((x : Name) → Among x xs → test x ≡ false) → filter test xs ≡ []
 filter_none test [] h = refl
 filter_none test (x ∷ xs) h = ap (λ b. cond b (x ∷ filter test xs) (filter test xs)) (h x (inl refl)) ∙ filter_none test xs (λ y i. h y (inr i))
 

@@ -145,7 +145,7 @@ module _ (table : List SynNode) (d : IsDerived table) (n : ℕ) (within : n < le
       or_no false = refl
 
   module _ (e : Name) (f : ℕ) (is : name_of (places_in table) n ≡ Some e) (first : IsFirst (places_in table) e f) (nodes : length (nodes_in table) ≡ length table) where
-    group : Name → Name → Bool
+    abbrev group : Name → Name → Bool
     group r a = is_again a r && defines_object (places_in table) a
 
     pub one_defined : (found : List Bool) (new : Bool) → new ≡ (get_or found f false || defines_at (places_in table) (name_of (places_in table) n)) → AreDefiningBefore table n found → AreDefiningBefore table (n + 1) (slice_set found f new)
@@ -274,5 +274,5 @@ module _ (table : List SynNode) (d : IsDerived table) (nodes : length (nodes_in 
   pub defines_here : (names : List (Option DeclaredName)) → AreNames table names → (i : ℕ) (x : DeclaredName) → i < length table → get_or names i None ≡ Some x → (b : Bool)
       → b ≡ (has_kid (node_at (nodes_in table) x.owner) 1 || not (says (nodes_in table) (codes "extern") (specs_of (nodes_in table) (node_at (nodes_in table) x.owner))))
       → (is_static (entity_of x.entity) && b) ≡ defines_at (places_in table) (name_of (places_in table) i)
-  unfolding places_in nodes_in
+  unfolding places_in nodes_in name_here
   defines_here names a i x within at b is = ap (λ c. is_static (entity_of x.entity) && c) is ∙ sym (ap (defines_at (places_in table)) (name_here names a i x within at).is)

@@ -1,2 +1,3 @@
 pub mod FirstLaws
 pub mod DefinedLaws
+pub mod ObjectLaws

@@ -6,7 +6,7 @@ use Rattle.c_typing.specs.Places.{node_at, says}
 use Rattle.c_typing.specs.Names.{Name, Places, defines_object, earlier, is_again, is_defined_object, is_static, name_of, object_number, objects_of}
 use Rattle.c_typing.specs.Typing.{declarations_of}
 use Rattle.c_nodes.specs.Parents.{nodes_in}
-use Rattle.c_names.specs.Denoted.{Among, places_in}
+use Rattle.c_names.specs.Denoted.{Among, IsDerived, places_in}
 
 -- the object of a name is defined; a node that declares none has none
 abbrev pub defined_at : Places → Option Name → Bool
@@ -36,6 +36,7 @@ pub record AreDeclarations (table : List SynNode) (found : List (List ℕ)) : Ty
 
 -- for each node, specs or not, that `extern` is among its words
 pub record AreExterns (table : List SynNode) (found : List Bool) : Type 0 where
+  pub derived : IsDerived table
   pub long : length found ≡ length table
   pub nodes : length (nodes_in table) ≡ length table
   pub are : (i : ℕ) → i < length table → get_or found i false ≡ says (nodes_in table) (codes "extern") (node_at (nodes_in table) i)

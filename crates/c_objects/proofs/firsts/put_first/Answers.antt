@@ -8,4 +8,4 @@ returns-in-Some c =
     one_put c.args.scoped.now b.derived c.args.number c.in-Some.node b c.args.found.now c.first_of.result (c.first_of.ensures b) c.requires.found
 
 pub returns-in_default : goal.returns-in_default
-returns-in_default c = ?
+returns-in_default c = none_put c.args.scoped.now c.requires.found.derived c.args.number c.args.found.now (c.in_default.ensures {u = tt}) c.requires.found
