@@ -1,14 +1,12 @@
 -- Which objects are defined, from node to node.
-use Rattle.std.proofs.Common.{◌≡◌, ◌≢◌, ◌⊎◌, inl, inr, ℕ, zero, suc, ◌+◌, ◌<◌, ◌≤◌, Bool, true, false, ◌&&◌, ◌||◌, cond, List, [], ◌∷◌, ◌++◌, length, replicate, Option, Some, None, refl, sym, ap, ◌∙◌, subst, arith, true≢false, get_or}
-use Rattle.std.specs.Prelude.{slice_set, filter, find, nat_lt, nat_eq, not, option_map, codes, ◌==◌}
+use Rattle.std.proofs.Common.{◌≡◌, ◌≢◌, ◌⊎◌, inl, inr, ℕ, zero, suc, ◌+◌, ◌<◌, ◌≤◌, Bool, true, false, ◌&&◌, ◌||◌, cond, List, [], ◌∷◌, length, replicate, Option, Some, None, refl, sym, ap, ◌∙◌, subst, arith, true≢false, get_or}
+use Rattle.std.specs.Prelude.{slice_set, find, nat_lt, nat_eq, not, option_map, codes, ◌==◌}
 use Rattle.std.specs.Option.{is_some}
-use Rattle.std.proofs.lemmas.List.{get_or-set_same, get_or-set_other, get_or-replicate, length-replicate, length-set}
+use Rattle.std.proofs.lemmas.List.{get_or-set_same, get_or-set_other, length-replicate, length-set}
 use Rattle.std.proofs.lemmas.Bool.Decides.{eqb_tells}
-use Rattle.c_syntax.specs.declared.kind.SynKind.{SynKind}
-use Rattle.c_syntax.specs.declared.kind.SynKind.TheVariants as kind
 use Rattle.c_syntax.specs.declared.syntax.SynNode.{SynNode}
-use Rattle.c_typing.specs.Places.{Node, Scope, has_kid, kind_at, node_at, says, specs_of}
-use Rattle.c_typing.specs.Names.{Entity, Name, Places, defines_object, earlier, entity_by, is_again, is_defined_object, is_static, name_of}
+use Rattle.c_typing.specs.Places.{has_kid, node_at, says, specs_of}
+use Rattle.c_typing.specs.Names.{Name, Places, defines_object, earlier, entity_by, is_again, is_defined_object, is_static, name_of}
 use Rattle.c_typing.proofs.MadeNames.{Named, Declares, by_declarator, by_enumerator}
 use Rattle.c_typing.proofs.MadeFunctionNames.{names_here}
 use Rattle.c_typing.proofs.MadeAround.{find_is}
@@ -22,8 +20,8 @@ use Rattle.c_names.proofs.DeclaredLaws.{from_in, to_in}
 use Rattle.c_names.proofs.ChainLaws.{Ascend, all_among}
 use Rattle.c_names.proofs.UseLaws.{ascend}
 use Rattle.c_objects.specs.Firsts.{AreFirsts, HasFirst, IsFirst}
-use Rattle.c_objects.specs.Objects.{AreDefined, AreDefining, AreDefiningBefore, defined_at, defines_at}
-use Rattle.c_objects.proofs.FirstLaws.{Names, name_at, node_below, one_first, one_node}
+use Rattle.c_objects.specs.Objects.{AreDefining, AreDefiningBefore, defined_at, defines_at}
+use Rattle.c_objects.proofs.FirstLaws.{Names, node_below, one_first, one_node}
 
 -- ---- lists
 

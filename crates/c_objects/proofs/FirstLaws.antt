@@ -1,13 +1,13 @@
 -- Names of one text in one scope, and the first of them.
-use Rattle.std.proofs.Common.{◌≡◌, ◌≢◌, ◌⊎◌, inl, inr, ℕ, ◌+◌, ◌<◌, ◌≤◌, Bool, true, false, ◌&&◌, cond, List, [], ◌∷◌, length, replicate, Option, Some, None, refl, sym, ap, ◌∙◌, subst, arith, true≢false, get_or}
-use Rattle.std.specs.Prelude.{slice_get, slice_set, filter, nat_lt, nat_eq, if◌then◌else◌}
+use Rattle.std.proofs.Common.{◌≡◌, ◌≢◌, ◌⊎◌, inl, inr, ℕ, ◌+◌, ◌<◌, ◌≤◌, Bool, true, false, ◌&&◌, List, [], length, replicate, Option, Some, None, refl, sym, ap, ◌∙◌, subst, arith, true≢false, get_or}
+use Rattle.std.specs.Prelude.{slice_set, nat_lt, nat_eq, if◌then◌else◌}
 use Rattle.std.specs.List.{last_or}
 use Rattle.std.proofs.lemmas.List.{get_or-set_same, get_or-set_other, get_or-replicate, length-replicate, length-set}
 use Rattle.std.proofs.lemmas.Bool.Decides.{eqb_tells}
 use Rattle.c_syntax.specs.declared.kind.SynKind.{SynKind}
 use Rattle.c_syntax.specs.declared.kind.SynKind.TheVariants as kind
 use Rattle.c_syntax.specs.declared.syntax.SynNode.{SynNode}
-use Rattle.c_typing.specs.Places.{is_declarator, kind_at}
+use Rattle.c_typing.specs.Places.{is_declarator}
 use Rattle.c_typing.specs.Names.{Name, earlier, is_again, name_of}
 use Rattle.c_typing.proofs.MadeNodes.{In, in_at}
 use Rattle.c_typing.proofs.MadeAround.{and_true, both_true}
@@ -22,7 +22,7 @@ use Rattle.c_names.specs.Names.{begun_at}
 use Rattle.c_names.proofs.DeclaredLaws as declared
 use Rattle.c_names.proofs.DeclaredLaws.{Enumerates, Whole, from_in, to_in}
 use Rattle.c_names.proofs.FoundLaws as founds
-use Rattle.c_objects.specs.Firsts.{AreFirsts, AreFirstsBefore, HasFirst, IsFirst}
+use Rattle.c_objects.specs.Firsts.{AreFirsts, AreFirstsBefore, HasFirst}
 
 so_less : (a b : ℕ) → a < b → nat_lt a b ≡ true
 so_less a b h = grind arith
@@ -153,7 +153,9 @@ module _ (table : List SynNode) (d : IsDerived table) where
 
   pub none_put : (n : ℕ) (found : List (Option ℕ)) → IsBegun table n None → AreFirstsBefore table n found → AreFirstsBefore table (n + 1) found
   none_put n found none f = record {
-    derived = d; nodes = f.nodes; long = f.long;
+    derived = d;
+    nodes = f.nodes;
+    long = f.long;
     are = λ i within. subst (λ o. HasFirst table o (get_or found i None)) (sym (founds.begun_none table d n none i)) (f.are i within);
   }
 
@@ -171,12 +173,16 @@ module _ (table : List SynNode) (d : IsDerived table) where
 
   pub none_first : length (nodes_in table) ≡ length table → AreFirstsBefore table 0 (replicate (length table) None)
   none_first nodes = record {
-    derived = d; nodes = nodes; long = length-replicate (length table) None;
+    derived = d;
+    nodes = nodes;
+    long = length-replicate (length table) None;
     are = λ i within. subst (λ o. HasFirst table o (get_or (replicate (length table) None) i None)) (sym (founds.begun_first table d (name_of (places_in table) i))) (get_or-replicate (length table) i None None within);
   }
 
   pub all_put : (n : ℕ) (found : List (Option ℕ)) → length table ≤ n → AreFirstsBefore table n found → AreFirsts table found
   all_put n found most f = record {
-    derived = d; nodes = f.nodes; long = f.long;
+    derived = d;
+    nodes = f.nodes;
+    long = f.long;
     are = λ i within. subst (λ o. HasFirst table o (get_or found i None)) (founds.begun_all table d n f.nodes most i) (f.are i within);
   }

@@ -1,11 +1,11 @@
 -- The objects of a unit and their numbers, from node to node.
-use Rattle.std.proofs.Common.{◌≡◌, ◌≢◌, ◌⊎◌, inl, inr, ℕ, zero, suc, ◌+◌, ◌<◌, ◌≤◌, Bool, true, false, ◌&&◌, cond, List, [], ◌∷◌, ◌++◌, length, map, Option, Some, None, refl, sym, ap, ap₂, ◌∙◌, subst, arith, true≢false, get_or}
-use Rattle.std.specs.Prelude.{filter, find, nat_lt, nat_eq, not, position, ◌==◌, if◌then◌else◌}
+use Rattle.std.proofs.Common.{◌≡◌, ◌≢◌, ◌⊎◌, inl, inr, ℕ, ◌+◌, ◌<◌, ◌≤◌, Bool, true, false, ◌&&◌, cond, List, [], ◌∷◌, ◌++◌, length, map, Option, Some, None, refl, sym, ap, ap₂, ◌∙◌, subst, arith, true≢false, get_or}
+use Rattle.std.specs.Prelude.{filter, nat_lt, nat_eq, not, position, ◌==◌, if◌then◌else◌}
 use Rattle.std.specs.List.{prefix_len}
 use Rattle.std.proofs.lemmas.List.{length_push}
 use Rattle.std.proofs.lemmas.Bool.Decides.{eqb_tells}
 use Rattle.c_syntax.specs.declared.syntax.SynNode.{SynNode}
-use Rattle.c_typing.specs.Names.{Name, Places, earlier, is_again, is_defined_object, is_static, name_of, object_number, objects_of}
+use Rattle.c_typing.specs.Names.{Name, earlier, is_again, is_defined_object, is_static, name_of, object_number, objects_of}
 use Rattle.c_typing.proofs.MadeAround.{equal_so, find_is}
 use Rattle.c_typing.proofs.MadeObjects.{again_back, again_through}
 use Rattle.c_nodes.specs.Parents.{nodes_in}
@@ -208,7 +208,7 @@ module _ (table : List SynNode) (d : IsDerived table) (nodes : length (nodes_in 
 
   -- ---- the number of each name
 
-  first_of_object : (a : Name) → is_object (places_in table) a ≡ true → earlier (places_in table) a ≡ []
+  pub first_of_object : (a : Name) → is_object (places_in table) a ≡ true → earlier (places_in table) a ≡ []
   first_of_object a e = no_items (earlier (places_in table) a) (by (is_static a.entity) (length (earlier (places_in table) a)) (is_defined_object (places_in table) a) e)
     where
       by : (p : Bool) (k : ℕ) (q : Bool) → (p && k == 0 && q) ≡ true → k ≡ 0

@@ -1,6 +1,7 @@
 -- The objects of a unit.
-use Rattle.std.specs.Prelude.{◌≡◌, ℕ, ◌<◌, Bool, false, ◌&&◌, ◌==◌, List, [], Option, Some, None, codes, filter, find, get_or, if◌then◌else◌, length, map, nat_lt, slice_get}
+use Rattle.std.specs.Prelude.{Vec, ◌≡◌, ℕ, ◌<◌, Bool, false, ◌&&◌, ◌==◌, List, [], Option, Some, None, codes, filter, find, get_or, if◌then◌else◌, length, map, nat_lt, slice_get}
 use Rattle.std.specs.Option.{is_some}
+use Rattle.std.specs.declared.alloc.Global.{Global}
 use Rattle.c_syntax.specs.declared.syntax.SynNode.{SynNode}
 use Rattle.c_typing.specs.Places.{node_at, says}
 use Rattle.c_typing.specs.Names.{Name, Places, defines_object, earlier, is_again, is_defined_object, is_static, name_of, object_number, objects_of}
@@ -24,6 +25,8 @@ number_at p (Some e) = object_number p e
 
 -- for each node, the number of the object that it declares
 pub record AreNumbers (table : List SynNode) (found : List (Option ℕ)) : Type 0 where
+  pub derived : IsDerived table
+  pub nodes : length (nodes_in table) ≡ length table
   pub long : length found ≡ length table
   pub are : (i : ℕ) → i < length table → get_or found i None ≡ number_at (places_in table) (name_of (places_in table) i)
 
@@ -31,6 +34,9 @@ pub record AreNumbers (table : List SynNode) (found : List (Option ℕ)) : Type 
 pub record AreDeclarations (table : List SynNode) (found : List (List ℕ)) : Type 0 where
   pub long : length found ≡ length (objects_of (places_in table))
   pub are : (k : ℕ) (e : Name) → slice_get (objects_of (places_in table)) k ≡ Some e → get_or found k [] ≡ map (λ (a : Name). a.node) (declarations_of (places_in table) e)
+
+abbrev pub nodes_in_lists : List (Vec ℕ Global) → List (List ℕ)
+nodes_in_lists lists = map (λ list. list.items) lists
 
 -- ---- how they are found
 
@@ -81,3 +87,9 @@ number_of_first p (Some e) = if is_object p e then Some (length (objects_before 
 pub record AreNumbersOfFirsts (table : List SynNode) (found : List (Option ℕ)) : Type 0 where
   pub long : length found ≡ length table
   pub are : (i : ℕ) → i < length table → get_or found i None ≡ number_of_first (places_in table) (name_of (places_in table) i)
+
+-- for each object, the nodes before this one that declare it
+pub record AreDeclarationsBefore (table : List SynNode) (n : ℕ) (found : List (List ℕ)) : Type 0 where
+  pub long : length found ≡ length (objects_of (places_in table))
+  pub are : (k : ℕ) (o : Name) → slice_get (objects_of (places_in table)) k ≡ Some o
+      → get_or found k [] ≡ map (λ (a : Name). a.node) (filter (λ a. is_again a o && nat_lt a.node n) (places_in table).names)

@@ -118,9 +118,7 @@ fn defines(
     ensures { result ≡ defines_at (places_in scoped.now) (name_of (places_in scoped.now) number) }
 {
     match names[number] {
-        Some(name) => {
-            is_static(name.entity) && is_definition(scoped, externs, name.owner)
-        }
+        Some(name) => { is_static(name.entity) && is_definition(scoped, externs, name.owner) }
         None => false,
     }
 }

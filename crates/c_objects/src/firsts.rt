@@ -33,12 +33,7 @@ fn put_firsts(scoped: &ScopedNodes, earlier: &[Earlier], found: &mut [Option<usi
 }
 
 // Puts that of the name whose scope begins behind a node.
-fn put_first(
-    scoped: &ScopedNodes,
-    earlier: &[Earlier],
-    found: &mut [Option<usize>],
-    number: usize,
-)
+fn put_first(scoped: &ScopedNodes, earlier: &[Earlier], found: &mut [Option<usize>], number: usize)
     requires within { number < length scoped.now }
     requires earlier { AreEarlier scoped.now earlier.now }
     requires found { AreFirstsBefore scoped.now number found.old }

@@ -14,16 +14,18 @@
 // `first_declarations`: the name of a group before which `earlier` has none. `defined_objects`: `is_defined_object`.
 // `objects`: `objects_of`. `object_numbers`: `object_number`. `declarations`: `declarations_of`.
 //
-// `firsts` has the first declarations, `defined` what is defined, and `numbers` the objects with their numbers and
-// declarations.
+// `firsts` has the first declarations, `defined` what is defined, and `numbers` the objects with their numbers;
+// `declared` has the declarations of each.
 //
 // Source: C99 6.2.2, 6.9.2.
 #![tactic(auto)]
 
+mod declared;
 mod defined;
 mod firsts;
 mod numbers;
 
+pub use declared::declarations;
 pub use defined::defined_objects;
 pub use firsts::first_declarations;
 pub use numbers::{object_numbers, objects};

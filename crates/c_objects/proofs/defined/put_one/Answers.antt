@@ -23,10 +23,10 @@ returns-after-defining-first c =
     let table = c.args.scoped.now in
     let w = first_here table c.args.number c.in-Some.first c.args.firsts.now c.requires.firsts c.requires.within c.in-Some.is in
     let new : c.if-defining-first.is_defined ≡ (get_or c.args.defining.now c.in-Some.first false || defines_at (places_in table) (name_of (places_in table) c.args.number)) =
-        elim c.if-defining-first.branch [
-          | then-defining-first w ↦ (w.is_defined-is ∙ (w.if-defining-first.true ∙ sym (ap (λ b. b || defines_at (places_in table) (name_of (places_in table) c.args.number)) w.if-defining-first.true)))
-          | else-defining-first w ↦ (w.is_defined-is ∙ (w.defines-is_defined.ensures ∙ sym (ap (λ b. b || defines_at (places_in table) (name_of (places_in table) c.args.number)) w.if-defining-first.false)))
-        ] in
+    elim c.if-defining-first.branch [
+      | then-defining-first w ↦ (w.is_defined-is ∙ (w.if-defining-first.true ∙ sym (ap (λ b. b || defines_at (places_in table) (name_of (places_in table) c.args.number)) w.if-defining-first.true)))
+      | else-defining-first w ↦ (w.is_defined-is ∙ (w.defines-is_defined.ensures ∙ sym (ap (λ b. b || defines_at (places_in table) (name_of (places_in table) c.args.number)) w.if-defining-first.false)))
+    ] in
     one_defined table c.requires.firsts.derived c.args.number c.requires.within w.0 c.in-Some.first w.1 w.2 c.requires.firsts.nodes c.args.defining.now c.if-defining-first.is_defined new c.requires.defining
 
 pub returns-in_default : goal.returns-in_default

@@ -1,4 +1,4 @@
-use Rattle.std.proofs.Common.{arith, subst, sym}
+use Rattle.std.proofs.Common.{arith}
 use Rattle.c_objects.proofs.FirstLaws.{first_none, first_some, last_within}
 use Rattle.c_objects.proofs.firsts.first_of.Goals as goal
 
