@@ -1,5 +1,5 @@
 -- What is called does not depend on how far the search for a call may go.
-use Rattle.std.proofs.Common.{◌≡◌, ◌≢◌, ◌⊎◌, inl, inr, ℕ, zero, suc, ◌+◌, ◌-◌, ◌<◌, ◌≤◌, Bool, true, false, cond, List, [], ◌∷◌, ◌++◌, length, replicate, Option, Some, None, refl, sym, ap, ap₂, ◌∙◌, subst, arith, true≢false, get_or}
+use Rattle.std.proofs.Common.{◌≡◌, ◌≢◌, ◌⊎◌, inl, inr, ℕ, zero, suc, ◌+◌, ◌-◌, ◌<◌, ◌≤◌, Bool, true, false, List, [], ◌∷◌, ◌++◌, length, replicate, Some, refl, sym, ap, ◌∙◌, subst, arith, true≢false, get_or}
 use Rattle.std.specs.Prelude.{slice_get, slice_set, nat_eq, ◌==◌}
 use Rattle.std.proofs.lemmas.List.{get_or-set_same, get_or-set_other, length-replicate, length-set}
 use Rattle.std.proofs.lemmas.Bool.Decides.{eqb_tells}
@@ -7,7 +7,7 @@ use Rattle.c_syntax.specs.declared.kind.SynKind.{SynKind}
 use Rattle.c_syntax.specs.declared.kind.SynKind.TheVariants as kind
 use Rattle.c_syntax.specs.declared.label.Label.{Label}
 use Rattle.c_syntax.specs.declared.syntax.SynNode.{SynNode}
-use Rattle.c_syntax.specs.Trees.{Forest, Tree, none, one, tree}
+use Rattle.c_syntax.specs.Trees.{Forest, none, one, tree}
 use Rattle.c_syntax.specs.Tables.{roots, size}
 use Rattle.c_typing.specs.Places.{Node, kid, kind_at, node_at, nodes, nodes_of, numbers, is_paren, parent_of}
 use Rattle.c_typing.specs.Names.{Places}

@@ -15,5 +15,7 @@
 #![tactic(auto)]
 
 mod calls;
+mod functions;
 
 pub use calls::called_nodes;
+pub use functions::function_specs;

@@ -151,7 +151,8 @@ impl<'a> ScopedNodes<'a> {
 
     /// The first kid of a node; where there is none, the first node.
     pub(crate) fn first_kid(&self, number: usize) -> usize
-        ensures { result ≡ kid (node_at (nodes_in self.now) number) 0 }
+        ensures is { result ≡ kid (node_at (nodes_in self.now) number) 0 }
+        ensures there { 0 < length self.now → result < length self.now }
     {
         if number < self.nodes.len() {
             self.nodes.kid(number, 0)
@@ -184,7 +185,8 @@ impl<'a> ScopedNodes<'a> {
     /// The specs of what a declarator belongs to.
     pub fn specs(&self, owner: usize) -> usize
         requires { owner < length self.now }
-        ensures { result ≡ specs_by (nodes_in self.now) (node_at (nodes_in self.now) owner) (kind_at (nodes_in self.now) owner) }
+        ensures is { result ≡ specs_by (nodes_in self.now) (node_at (nodes_in self.now) owner) (kind_at (nodes_in self.now) owner) }
+        ensures there { result < length self.now }
     {
         match self.nodes.kind_at(owner) {
             SynKind::InitDecl => self.first_kid(self.nodes.parent(owner)),

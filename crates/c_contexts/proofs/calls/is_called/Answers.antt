@@ -1,6 +1,5 @@
-use Rattle.std.proofs.Common.{◌≡◌, ◌∙◌, ap, sym}
+use Rattle.std.proofs.Common.{◌∙◌, ap, sym}
 use Rattle.std.specs.Prelude.{false, get_or, ◌==◌}
-use Rattle.c_syntax.specs.declared.kind.SynKind.TheVariants as kind
 use Rattle.c_typing.specs.Places.{kid, kind_at, node_at}
 use Rattle.c_nodes.specs.Parents.{nodes_in}
 use Rattle.c_contexts.proofs.CallLaws.{by_call, by_other, by_paren}

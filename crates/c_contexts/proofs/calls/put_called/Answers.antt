@@ -1,4 +1,4 @@
-use Rattle.std.proofs.Common.{◌+◌, ◌-◌, arith, subst, sym}
+use Rattle.std.proofs.Common.{◌-◌, arith, subst, sym}
 use Rattle.c_contexts.specs.Contexts.{AreCalledFrom}
 use Rattle.c_contexts.proofs.CallLaws.{all_put, none_put, one_put}
 use Rattle.c_contexts.proofs.calls.put_called.Goals as goal
