@@ -79,7 +79,7 @@ impl<'a> ScopedNodes<'a> {
     }
 
     /// How many nodes there are.
-    pub(crate) fn len(&self) -> usize
+    pub fn len(&self) -> usize
         ensures is { result ≡ length self.now }
         ensures nodes { length (nodes_in self.now) ≡ length self.now }
         ensures derived { IsDerived self.now }
@@ -88,7 +88,7 @@ impl<'a> ScopedNodes<'a> {
     }
 
     /// The kind of a node.
-    pub(crate) fn kind_at(&self, number: usize) -> SynKind
+    pub fn kind_at(&self, number: usize) -> SynKind
         ensures { result ≡ kind_at (nodes_in self.now) number }
     {
         self.nodes.kind_at(number)
@@ -125,7 +125,7 @@ impl<'a> ScopedNodes<'a> {
     }
 
     /// The node of this number.
-    pub(crate) fn node(&self, number: usize) -> &SynNode
+    pub fn node(&self, number: usize) -> &SynNode
         requires { number < length self.now }
         ensures { result.now ≡ in_table (node_at (nodes_in self.now) number) }
     {
@@ -133,7 +133,7 @@ impl<'a> ScopedNodes<'a> {
     }
 
     /// The kids of a node, which stand before it.
-    pub(crate) fn kids(&self, number: usize) -> &[SynId]
+    pub fn kids(&self, number: usize) -> &[SynId]
         requires { number < length self.now }
         ensures are { numbers result.now ≡ (node_at (nodes_in self.now) number).kids }
         ensures before { IsWithin number result.now }
@@ -151,7 +151,8 @@ impl<'a> ScopedNodes<'a> {
 
     /// The first kid of a node; where there is none, the first node.
     pub(crate) fn first_kid(&self, number: usize) -> usize
-        ensures { result ≡ kid (node_at (nodes_in self.now) number) 0 }
+        ensures is { result ≡ kid (node_at (nodes_in self.now) number) 0 }
+        ensures there { 0 < length self.now → result < length self.now }
     {
         if number < self.nodes.len() {
             self.nodes.kid(number, 0)
@@ -161,7 +162,7 @@ impl<'a> ScopedNodes<'a> {
     }
 
     /// The node has a kid of this index.
-    pub(crate) fn has_kid(&self, number: usize, index: usize) -> bool
+    pub fn has_kid(&self, number: usize, index: usize) -> bool
         ensures { result ≡ has_kid (node_at (nodes_in self.now) number) index }
     {
         if number < self.nodes.len() {
@@ -182,9 +183,10 @@ impl<'a> ScopedNodes<'a> {
     }
 
     /// The specs of what a declarator belongs to.
-    pub(crate) fn specs(&self, owner: usize) -> usize
+    pub fn specs(&self, owner: usize) -> usize
         requires { owner < length self.now }
-        ensures { result ≡ specs_by (nodes_in self.now) (node_at (nodes_in self.now) owner) (kind_at (nodes_in self.now) owner) }
+        ensures is { result ≡ specs_by (nodes_in self.now) (node_at (nodes_in self.now) owner) (kind_at (nodes_in self.now) owner) }
+        ensures there { result < length self.now }
     {
         match self.nodes.kind_at(owner) {
             SynKind::InitDecl => self.first_kid(self.nodes.parent(owner)),
@@ -225,7 +227,7 @@ impl<'a> ScopedNodes<'a> {
     }
 
     /// The node of the name whose scope begins behind a node: that of the whole declarator, or of the enumerator.
-    pub(crate) fn begun(&self, number: usize) -> Option<usize>
+    pub fn begun(&self, number: usize) -> Option<usize>
         requires { number < length self.now }
         ensures { IsBegun self.now number result }
     {

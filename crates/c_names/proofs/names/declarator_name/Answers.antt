@@ -21,7 +21,7 @@ bounds-words-specs c =
     let low = p.low in
     let specs = p.specs in
     let count = c.requires.words.count in
-    let is = c.specs.ensures ∙ ap (λ o. specs_by (nodes_in c.args.scoped.now) (node_at (nodes_in c.args.scoped.now) o) (kind_at (nodes_in c.args.scoped.now) o)) c.parent-owner.ensures in
+    let is = c.specs.ensures.is ∙ ap (λ o. specs_by (nodes_in c.args.scoped.now) (node_at (nodes_in c.args.scoped.now) o) (kind_at (nodes_in c.args.scoped.now) o)) c.parent-owner.ensures in
     omega (arith, low, specs, count, is)
 
 pub offset_bounds-words-specs : goal.offset_bounds-words-specs
@@ -52,7 +52,7 @@ returns c = λ b.
     let table = c.args.scoped.now in
     let p = parts table b.derived c.args.behind c.requires.within b.nodes c.args.node b c.requires.kind in
     let s = nodes_in table in
-    let specs = c.specs.ensures ∙ ap (λ o. specs_by s (node_at s o) (kind_at s o)) c.parent-owner.ensures in
+    let specs = c.specs.ensures.is ∙ ap (λ o. specs_by s (node_at s o) (kind_at s o)) c.parent-owner.ensures in
     let low = p.low in
     let under = p.specs in
     let count = c.requires.words.count in

@@ -1,0 +1,4 @@
+pub mod OwnerLaws
+pub mod CountLaws
+pub mod NumberLaws
+pub mod AnyLaws

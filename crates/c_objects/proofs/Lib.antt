@@ -1,0 +1,4 @@
+pub mod FirstLaws
+pub mod DefinedLaws
+pub mod ObjectLaws
+pub mod DeclarationLaws
