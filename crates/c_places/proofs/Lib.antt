@@ -1,0 +1,4 @@
+pub mod GrowLaws
+pub mod PointerLaws
+pub mod MemberLaws
+pub mod ElementLaws

@@ -52,12 +52,12 @@ pub fn subscript(
         IsAnswer table.new result (productions.subscript js n x y) }
     ensures grows { Grows table.old table.new }
 {
-    let left = indexed(alloc, table, left)?;
-    let right = indexed(alloc, table, right)?;
-    element(alloc, table, node, left, right)
+    let left = operand_of(alloc, table, left)?;
+    let right = operand_of(alloc, table, right)?;
+    element_by(alloc, table, node, left, right)
 }
 
-fn indexed(alloc: Global, table: &mut TypeTable, operand: Typing) -> Result<Indexed, AllocError>
+fn operand_of(alloc: Global, table: &mut TypeTable, operand: Typing) -> Result<Indexed, AllocError>
     requires { (x : rules.Typing) × Is table.old operand x }
     ensures is { IfOk result (λ found. (x : rules.Typing) → Is table.old operand x → IsIndexed table.new found x) }
     ensures grows { Grows table.old table.new }
@@ -80,7 +80,7 @@ fn is_array(table: &TypeTable, kind: Type) -> bool
 }
 
 // The element, by the values of both operands.
-fn element(
+fn element_by(
     alloc: Global,
     table: &TypeTable,
     node: usize,

@@ -10,7 +10,7 @@ ghost use Rattle.c_typing.specs.Conversions as conversions;
 ghost use Rattle.c_typing.specs.Rules.{incomplete_type};
 ghost use Rattle.c_typing.specs.Expressions as productions;
 ghost use Rattle.c_typing.specs.Expressions.{expression};
-ghost use Rattle.c_type_ids.specs.Ids.{AreLaid, Grows, Names};
+ghost use Rattle.c_type_ids.specs.Ids.{AreLaid, Grows, Names, Shows};
 ghost use Rattle.c_values.specs.Typings.{HasForm, Is, IsType};
 ghost use Rattle.c_places.specs.Places.{IsAnswer};
 
@@ -91,8 +91,25 @@ fn pointed_to(table: &TypeTable, node: usize, value: Typing) -> Result<Typing, R
         IsAnswer table.now result (productions.dereference js n y.type y) }
 {
     match kind_of(table, value.kind) {
-        Shown::Kind(Kind::Pointer(target)) => at_address(table, node, target, value.code),
+        Shown::Kind(kind) => pointed_to_by(table, node, kind, value.code),
         Shown::ToUnsized(_) => Err(Refusal::Broken { rule: 5, node }),
+        Shown::Unsized(_) => Err(Refusal::Broken { rule: 13, node }),
+    }
+}
+
+// The same by what the type of the value is.
+fn pointed_to_by(
+    table: &TypeTable,
+    node: usize,
+    kind: Kind,
+    value: Expr,
+) -> Result<Typing, Refusal>
+    requires { (u : CType) × Shows table.now kind u }
+    ensures { (js : List Judgement) (n : Node) (u : CType) (y : rules.Typing) → AreLaid table.now (layouts js) → n.id ≡ node → Shows table.now kind u → value ≡ y.code →
+        IsAnswer table.now result (productions.dereference js n u y) }
+{
+    match kind {
+        Kind::Pointer(target) => at_address(table, node, target, value),
         _ => Err(Refusal::Broken { rule: 13, node }),
     }
 }
