@@ -1,9 +1,8 @@
 -- Elements of arrays.
-use Rattle.std.proofs.Common.{◌≡◌, ℕ, Bool, true, false, List, [], ◌∷◌, Option, None, Some, refl, sym, ap, ap₂, ◌∙◌, subst}
+use Rattle.std.proofs.Common.{◌≡◌, ℕ, true, false, List, [], Option, None, Some, refl, sym, ap, ap₂, ◌∙◌, subst}
 use Rattle.std.specs.Prelude.{Result, Err, unwrap_or}
 use Rattle.std.specs.Option.{is_some}
 use Rattle.c_types.specs.declared.tree.COp.TheVariants as op
-use Rattle.c_types.specs.declared.tree.Expr.{Expr}
 use Rattle.c_types.specs.Forms.{binary, const}
 use Rattle.c_typing.specs.Types.{CType, void, integer, pointer, array, unsized, struct, function, is_pointer, Layout, size_of}
 use Rattle.c_typing.specs.Places.{Node}

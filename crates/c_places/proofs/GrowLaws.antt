@@ -1,5 +1,5 @@
 -- An expression stays what it is where the table of types grows, and refusals.
-use Rattle.std.proofs.Common.{◌≡◌, ℕ, List, [], ◌∷◌, ap, ◌∙◌, subst}
+use Rattle.std.proofs.Common.{◌≡◌, ℕ, List, ◌∷◌, ap, ◌∙◌, subst}
 use Rattle.std.specs.Prelude.{Result, Err}
 use Rattle.c_types.specs.declared.tree.Expr.{Expr}
 use Rattle.c_typing.specs.Types.{CType, pointer, unsized}

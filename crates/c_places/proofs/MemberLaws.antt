@@ -1,5 +1,5 @@
 -- Members of structs.
-use Rattle.std.proofs.Common.{◌≡◌, ℕ, List, [], ◌∷◌, ◌++◌, Option, None, Some, refl, sym, ap, ◌∙◌, subst}
+use Rattle.std.proofs.Common.{◌≡◌, ℕ, List, [], ◌++◌, Option, None, Some, refl, sym, ap, ◌∙◌, subst}
 use Rattle.std.specs.Prelude.{Result, Err, unwrap_or, option_and_then, find}
 use Rattle.std.specs.Str.{bytes_eq}
 use Rattle.c_types.specs.declared.kind.TypeId.{TypeId}

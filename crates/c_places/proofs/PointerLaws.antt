@@ -1,5 +1,5 @@
 -- Addresses, and what stands at one.
-use Rattle.std.proofs.Common.{◌≡◌, ◌≢◌, ℕ, List, [], ◌∷◌, Option, None, Some, refl, sym, ap, subst}
+use Rattle.std.proofs.Common.{◌≡◌, ◌≢◌, ℕ, List, [], Option, None, Some, refl, sym, subst}
 use Rattle.std.specs.Prelude.{Result, Err, option_map, not}
 use Rattle.std.specs.Option.{is_some}
 use Rattle.c_types.specs.declared.kind.TypeId.{TypeId}

@@ -1,6 +1,5 @@
 -- What is answered for an expression, and what an operand of `[]` is.
-use Rattle.std.specs.Prelude.{◌≡◌, ℕ, Bool, List, Option, Some, None, Result, if◌then◌else◌}
-use Rattle.c_types.specs.declared.kind.TypeId.{TypeId}
+use Rattle.std.specs.Prelude.{◌≡◌, List, Option, Some, None, Result, if◌then◌else◌}
 use Rattle.c_typing.specs.Types.{CType, Layout, is_array, size_of}
 use Rattle.c_typing.specs.Judgements as rules
 use Rattle.c_typing.specs.Judgements.{Judgement}

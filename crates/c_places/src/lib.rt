@@ -9,17 +9,22 @@
 // The theorem, on each function: for every node at that place, and all expressions of the rules that the operands are, the
 // answer is that of the production in `c_typing` (`IsAnswer` of `specs/Places.antt`); and the table only grows.
 //
-// `parts` has what stands at an address, `elements` the operator `[]`, `pointers` the operators `*` and `&`, `members` the
+// `literals` has constants and string literals, `names` the names of objects, locals and functions, `parts` what stands behind an
+// address, `elements` the operator `[]`, `pointers` the operators `*` and `&`, `members` the
 // operators `.` and `->`.
 //
-// Source: C99 6.5.1, 6.5.2.1, 6.5.2.3, 6.5.3.2.
+// Source: C99 6.4.4, 6.4.5, 6.5.1, 6.5.2.1, 6.5.2.3, 6.5.3.2.
 #![tactic(auto)]
 
 mod elements;
+mod literals;
 mod members;
+mod names;
 mod parts;
 mod pointers;
 
 pub use elements::subscript;
+pub use literals::{int_constant, integer_constant, literal};
 pub use members::{arrow, dot};
+pub use names::{called_by_name, function, local, object, unknown_name};
 pub use pointers::{address_operator, dereference};

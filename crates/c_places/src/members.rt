@@ -33,14 +33,7 @@ pub fn dot(
         Some((offset, id)) => {
             let constant = part_at(offset, operand.constant);
             let form = member_form(operand.form);
-            part(
-                alloc,
-                id,
-                form,
-                operand.code,
-                Expr::Const(offset),
-                constant,
-            )
+            part(alloc, id, form, operand.code, Expr::Const(offset), constant)
         }
         None => Err(Refusal::Broken { rule: 6, node }),
     }
@@ -101,8 +94,11 @@ fn pointed_member(table: &TypeTable, shown: Shown, name: &str) -> Option<(u32, T
         IsField table.now result (productions.field_of ls (target_of t) name.now) }
 {
     match shown {
-        Shown::Kind(Kind::Pointer(target)) =>
-            member_of(table, Shown::Kind(table.kind(target)), name),
+        Shown::Kind(Kind::Pointer(target)) => member_of(
+            table,
+            Shown::Kind(table.kind(target)),
+            name,
+        ),
         _ => None,
     }
 }

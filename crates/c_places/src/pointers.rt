@@ -98,12 +98,7 @@ fn pointed_to(table: &TypeTable, node: usize, value: Typing) -> Result<Typing, R
 }
 
 // The same by what the type of the value is.
-fn pointed_to_by(
-    table: &TypeTable,
-    node: usize,
-    kind: Kind,
-    value: Expr,
-) -> Result<Typing, Refusal>
+fn pointed_to_by(table: &TypeTable, node: usize, kind: Kind, value: Expr) -> Result<Typing, Refusal>
     requires { (u : CType) × Shows table.now kind u }
     ensures { (js : List Judgement) (n : Node) (u : CType) (y : rules.Typing) → AreLaid table.now (layouts js) → n.id ≡ node → Shows table.now kind u → value ≡ y.code →
         IsAnswer table.now result (productions.dereference js n u y) }
@@ -115,12 +110,7 @@ fn pointed_to_by(
 }
 
 // What has this type, at this address.
-fn at_address(
-    table: &TypeTable,
-    node: usize,
-    id: TypeId,
-    address: Expr,
-) -> Result<Typing, Refusal>
+fn at_address(table: &TypeTable, node: usize, id: TypeId, address: Expr) -> Result<Typing, Refusal>
     requires { IsThere table.now.table id }
     ensures { (js : List Judgement) (t : CType) → AreLaid table.now (layouts js) → Names table.now id t →
         IsAnswer table.now result (verdict (incomplete_type (layouts js) t node) (expression (record { type = t; form = rules.in_memory; code = address; constant = rules.no_constant }))) }
