@@ -1,8 +1,8 @@
 -- The parameters of a function, and one argument.
-use Rattle.std.proofs.Common.{◌≡◌, ◌≢◌, ◌<◌, ℕ, zero, suc, Bool, false, true, not, List, [], ◌∷◌, length, drop, get_or, refl, sym, ap, ◌∙◌, subst, arith}
+use Rattle.std.proofs.Common.{◌≡◌, ◌≢◌, ℕ, zero, suc, Bool, not, List, [], ◌∷◌, length, drop, get_or, refl, sym, ap, ◌∙◌, subst}
 use Rattle.c_types.specs.declared.kind.TypeId.{TypeId}
 use Rattle.c_typing.specs.Types.{CType, CTypes, function, listed, no_types, a_type}
-use Rattle.c_typing.specs.Judgements.{Typing, rule}
+use Rattle.c_typing.specs.Judgements.{Typing}
 use Rattle.c_typing.specs.Conversions.{is_null, is_assignable_by}
 use Rattle.c_typing.specs.Rules.{broken_if, bad_conversion}
 use Rattle.c_type_ids.specs.declared.kinds.Kind.{Kind}

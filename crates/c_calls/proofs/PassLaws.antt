@@ -1,5 +1,7 @@
 -- Arguments that are passed one after the other.
-use Rattle.std.proofs.Common.{◌≡◌, ◌+◌, ◌<◌, ℕ, suc, List, [], ◌∷◌, ◌++◌, length, drop, get_or, map, reverse, refl, sym, ap, ap₂, ◌∙◌, subst, append_assoc, append-nil, length-append, reverse-append, drop-cons, arith}
+use Rattle.std.proofs.Common.{◌≡◌, ◌+◌, ◌<◌, ℕ, suc, List, [], ◌∷◌, ◌++◌, length, drop, get_or, map, reverse, refl, sym, ap, ap₂, ◌∙◌, subst, append_assoc, append-nil, length-append, drop-cons, arith}
+use Rattle.std.specs.Prelude.{Result, Ok, Err}
+use Rattle.std.proofs.lemmas.List.{reverse-append}
 use Rattle.c_types.specs.declared.kind.TypeId.{TypeId}
 use Rattle.c_types.specs.declared.tree.Expr.{Expr}
 use Rattle.c_typing.specs.Types.{CType, CTypes, void, function, listed}
@@ -9,12 +11,13 @@ use Rattle.c_typing.specs.Rules.{bad_conversion}
 use Rattle.c_typing.specs.Conversions.{value_of, converted_to}
 use Rattle.c_typing.specs.Expressions.{arguments, argument_faults, passed}
 use Rattle.c_type_ids.specs.Ids.{Known, Names, Keeps, Grows}
+use Rattle.c_type_ids.proofs.IdLaws.{names_grow}
 use Rattle.c_type_ids.proofs.TableLaws.{grows_on, grows_same}
 use Rattle.c_values.specs.declared.typings.Typing.{Typing}
 use Rattle.c_values.specs.Typings.{Is}
 use Rattle.c_answers.specs.declared.refusal.Refusal.{Refusal}
 use Rattle.c_answers.specs.declared.refusal.Refusal.TheVariants as refusal
-use Rattle.c_answers.specs.Answers.{IsFirst}
+use Rattle.c_answers.specs.Answers.{IsFirst, Settles}
 use Rattle.c_places.proofs.GrowLaws.{is_grows}
 use Rattle.c_calls.specs.Arguments.{AreTypings}
 
@@ -47,7 +50,7 @@ pub record SoFar (old k : Known) (id : TypeId) (all left : List Typing) (nodes :
 pub at_first : (k : Known) (id : TypeId) (all : List Typing) (nodes : List ℕ) → length all ≡ length nodes → SoFar k k id all all nodes []
 at_first k id all nodes e = record {
   grows = grows_same k k refl;
-  count = e;
+  count = omega (arith, e);
   is = λ r ts xs named many are. record { others = xs; typings = are; faults = refl; codes_are = refl };
 }
 
@@ -108,10 +111,10 @@ module _ (k : Known) (ts : CTypes) (xs : List rules.Typing) (nodes : List ℕ) (
         typings = typings_grow k new g (reverse rest) step.others step.typings;
         faults = step.faults ∙ ap (λ fs. fs ++ argument_faults (from (suc (length codes)) ts step.others nodes)) none ∙ ap (λ i. argument_faults (from i ts step.others nodes)) longer;
         codes_are =
-          step.codes_are
-          ∙ ap (λ x. codes ++ x ∷ map passed (from (suc (length codes)) ts step.others nodes)) (sym is)
-          ∙ sym (append_assoc codes (code ∷ []) (map passed (from (suc (length codes)) ts step.others nodes)))
-          ∙ ap₂ (λ es i. es ++ map passed (from i ts step.others nodes)) (sym e) longer;
+            step.codes_are
+            ∙ ap (λ x. codes ++ x ∷ map passed (from (suc (length codes)) ts step.others nodes)) (sym is)
+            ∙ sym (append_assoc codes (code ∷ []) (map passed (from (suc (length codes)) ts step.others nodes)))
+            ∙ ap₂ (λ es i. es ++ map passed (from i ts step.others nodes)) (sym e) longer;
       }
 
   first_front : (r : Refusal) (fs gs : List Fault) → IsFirst r fs → IsFirst r (fs ++ gs)
@@ -147,3 +150,62 @@ all_passed k ts xs nodes left codes e so = by so.others (subst (λ l. AreTypings
         let none : from (length codes) ts [] nodes ≡ [] = no_argument (drop (length codes) (listed ts)) (drop (length codes) nodes) in
         (f ∙ ap argument_faults none, sym (c ∙ ap (λ args. codes ++ map passed args) none ∙ append-nil codes))
     by (x ∷ others) h f c = absurd h
+
+pub empty : {A : Type 0} (xs : List A) → length xs ≡ 0 → xs ≡ []
+empty [] e = refl
+empty (x ∷ xs) e = absurd (omega (arith, e))
+
+-- ---- one turn of the loop
+
+-- this is the type of the parameter at a place
+abbrev pub IsParameter : Known → TypeId → ℕ → TypeId → Type 0
+IsParameter k id place parameter = (r : CType) (ts : CTypes) (t : CType) (rest : List CType) → Names k id (function r ts) → drop place (listed ts) ≡ t ∷ rest → Names k parameter t
+
+-- this is found for an argument at a node
+abbrev pub Passes : Known → TypeId → Typing → ℕ → Result Expr Refusal → Type 0
+Passes k parameter s node found = (t : CType) (x : rules.Typing) → Names k parameter t → Is k s x
+    → Settles (λ code. code ≡ converted_to t (value_of x)) found (bad_conversion t (value_of x) node)
+
+module _ (old k : Known) (id : TypeId) (all left rest : List Typing) (nodes : List ℕ) (codes : List Expr) (s : Typing) (place : ℕ) (so : SoFar old k id all left nodes codes)
+    (e : left ≡ rest ++ s ∷ []) (here : place ≡ length codes) where
+  step_at : (r : CType) (ts : CTypes) (xs : List rules.Typing) → Names old id (function r ts) → length (listed ts) ≡ length nodes → AreTypings old (reverse all) xs → Step k ts xs nodes rest s codes
+  step_at r ts xs named many are = next_step k ts xs nodes left rest s codes e so.count many (so.is r ts xs named many are)
+
+  pub still_named : (r : CType) (ts : CTypes) → Names old id (function r ts) → Names k id (function r ts)
+  still_named r ts named = names_grow old k so.grows.keeps.types so.grows.keeps.structs id (function r ts) named
+
+  pub place_within : (ts : CTypes) → length (listed ts) ≡ length nodes → place < length (listed ts)
+  place_within ts many = let before = within left rest s codes nodes e so.count in omega (arith, before, here, many)
+
+  pub argument_there : (r : CType) (ts : CTypes) (xs : List rules.Typing) → Names old id (function r ts) → length (listed ts) ≡ length nodes → AreTypings old (reverse all) xs → (x : rules.Typing) × Is k s x
+  argument_there r ts xs named many are = let step = step_at r ts xs named many are in (step.argument, step.is)
+
+  module _ (parameter : TypeId) (is : IsParameter k id place parameter) where
+    names_it : (r : CType) (ts : CTypes) (xs : List rules.Typing) → Names old id (function r ts) → (step : Step k ts xs nodes rest s codes) → Names k parameter step.type
+    names_it r ts xs named step =
+        is r ts step.type (drop (suc (length codes)) (listed ts)) (still_named r ts named) (subst (λ i. drop i (listed ts) ≡ step.type ∷ drop (suc (length codes)) (listed ts)) (sym here) step.at)
+
+    pub parameter_there : (r : CType) (ts : CTypes) (xs : List rules.Typing) → Names old id (function r ts) → length (listed ts) ≡ length nodes → AreTypings old (reverse all) xs → (t : CType) × Names k parameter t
+    parameter_there r ts xs named many are = let step = step_at r ts xs named many are in (step.type, names_it r ts xs named step)
+
+    settled : (found : Result Expr Refusal) → Passes k parameter s (get_or nodes place 0) found → (r : CType) (ts : CTypes) (xs : List rules.Typing) → Names old id (function r ts)
+        → (step : Step k ts xs nodes rest s codes)
+        → Settles (λ code. code ≡ converted_to step.type (value_of step.argument)) found (bad_conversion step.type (value_of step.argument) (get_or nodes (length codes) 0))
+    settled found passes r ts xs named step =
+        subst (λ i. Settles (λ code. code ≡ converted_to step.type (value_of step.argument)) found (bad_conversion step.type (value_of step.argument) (get_or nodes i 0))) here
+        (passes step.type step.argument (names_it r ts xs named step) step.is)
+
+    pub refused : (r : Refusal) → Passes k parameter s (get_or nodes place 0) (Err r) → (gives : CType) (ts : CTypes) (xs : List rules.Typing) → Names old id (function gives ts)
+        → length (listed ts) ≡ length nodes → AreTypings old (reverse all) xs → IsFirst r (argument_faults (whole ts xs nodes))
+    refused r passes gives ts xs named many are =
+        let step = step_at gives ts xs named many are in
+        refused_step k ts xs nodes rest s codes step r (settled (Err r) passes gives ts xs named step)
+
+    pub preserved : (new : Known) (code : Expr) (more : List Expr) → Grows k new → more ≡ codes ++ code ∷ [] → Passes k parameter s (get_or nodes place 0) (Ok code) → SoFar old new id all rest nodes more
+    preserved new code more grows f passes = record {
+      grows = grows_on old k new so.grows grows;
+      count = one_less left rest s codes more code nodes e f so.count;
+      is = λ r ts xs named many are.
+          let step = step_at r ts xs named many are in
+          after_step k ts xs nodes rest s codes step new grows.keeps code more f (settled (Ok code) passes r ts xs named step);
+    }

@@ -1,4 +1,4 @@
-use Rattle.std.proofs.Common.{[], ◌∙◌, ap, sym, not}
+use Rattle.std.proofs.Common.{[], ◌∙◌, ap, not}
 use Rattle.c_typing.specs.Conversions.{value_of, converted_code, is_null}
 use Rattle.c_typing.specs.Rules.{broken_if}
 use Rattle.c_type_ids.proofs.IdLaws.{names_grow}
@@ -19,8 +19,7 @@ pub returns-then-not-is_assignable-clause-is : goal.returns-then-not-is_assignab
 returns-then-not-is_assignable-clause-is c = λ t x named is.
     let keeps = c.in_ok-value.ensures.grows.keeps in
     let value = c.in_ok-value.ensures.is x is in
-    let to = names_grow c.args.table.now c.value_of.new.table keeps.types keeps.structs c.args.parameter t named in
-    (
+    let to = names_grow c.args.table.now c.value_of.new.table keeps.types keeps.structs c.args.parameter t named in (
       [],
       conversion t (value_of x) c.args.node c.is_assignable.result c.is_null.result (c.is_assignable.ensures t (value_of x).type to value.type) (c.is_null.ensures ∙ ap is_null value.constant)
           ∙ ap (λ b. broken_if (not b) 14 c.args.node) c.if-not-is_assignable.true,
@@ -30,8 +29,7 @@ pub returns-clause-is : goal.returns-clause-is
 returns-clause-is c = λ t x named is.
     let keeps = c.in_ok-value.ensures.grows.keeps in
     let value = c.in_ok-value.ensures.is x is in
-    let to = names_grow c.args.table.now c.value_of.new.table keeps.types keeps.structs c.args.parameter t named in
-    (
+    let to = names_grow c.args.table.now c.value_of.new.table keeps.types keeps.structs c.args.parameter t named in (
       conversion t (value_of x) c.args.node c.is_assignable.result c.is_null.result (c.is_assignable.ensures t (value_of x).type to value.type) (c.is_null.ensures ∙ ap is_null value.constant)
           ∙ ap (λ b. broken_if (not b) 14 c.args.node) c.if-not-is_assignable.false,
       c.in_ok-converted.ensures (value_of x).type t value.type to ∙ ap (converted_code (value_of x).type t) value.code,
