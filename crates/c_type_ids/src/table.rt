@@ -148,9 +148,9 @@ impl TypeTable {
         self.types.close_struct(s, members)
     }
 
-    /// The offset and the type of the member of this name.
+    /// The offset and the type of the member of this name, of a struct that a node declares.
     pub fn member(&self, s: StructId, name: &str) -> Option<(u32, TypeId)>
-        requires { IsStruct self.now.table s }
+        requires { (node : ℕ) × (struct_by self.now.structs node ≡ Some s) }
         ensures { (node : ℕ) (layouts : List Layout) → struct_by self.now.structs node ≡ Some s → AreLaid self.now layouts →
             IsField self.now result (field_of layouts (types.struct node) name.now) }
     {
