@@ -30,7 +30,6 @@ use Rattle.c_values.specs.Typings.{ShownAs, form_of}
 use Rattle.c_answers.specs.declared.refusal.Refusal.{Refusal}
 use Rattle.c_answers.specs.declared.refusal.Refusal.TheVariants as refusal
 use Rattle.c_answers.specs.Answers.{Answers, Expresses, IsFirst}
-use Rattle.c_answers.proofs.AnswerLaws.{answers_means}
 use Rattle.c_places.specs.Places.{IsAddressType, IsAnswer, IsPlaceType}
 use Rattle.c_places.proofs.GrowLaws.{refuses, made}
 

@@ -42,12 +42,7 @@ pub fn address_operator(
 }
 
 // The type of the address of an expression that is an lvalue in memory.
-fn address_type(
-    table: &mut TypeTable,
-    node: usize,
-    form: Form,
-    kind: Type,
-) -> Result<Type, Refusal>
+fn address_type(table: &mut TypeTable, node: usize, form: Form, kind: Type) -> Result<Type, Refusal>
     requires there { (t : CType) × IsType table.old kind t }
     requires of_form { HasForm kind form }
     ensures is { (n : Node) (x : rules.Typing) → n.id ≡ node → IsType table.old kind x.type → form_of form ≡ x.form →

@@ -12,8 +12,8 @@ returns-in-InLocal-clause-is c = λ n x same is form.
 
 pub returns-in_ok-pointer_to-in-InMemory-clause-is : goal.returns-in_ok-pointer_to-in-InMemory-clause-is
 returns-in_ok-pointer_to-in-InMemory-clause-is c = λ n x same is form.
-    address_in_memory c.pointer_to.new.table c.args.node n x same (IsAddressType c.pointer_to.new.table x) (Ok c.in_ok-pointer_to.field-0) (ap form_of (sym c.in-InMemory.is) ∙ form)
-    (c.in_ok-pointer_to.ensures.is x.type is, refl)
+    address_in_memory c.pointer_to.new.table c.args.node n x same (IsAddressType c.pointer_to.new.table x) (Ok c.in_ok-pointer_to-in-InMemory.field-0) (ap form_of (sym c.in-InMemory.is) ∙ form)
+    (c.in_ok-pointer_to-in-InMemory.ensures.is x.type is, refl)
 
 pub returns-in_default : goal.returns-in_default
 returns-in_default c = record {
