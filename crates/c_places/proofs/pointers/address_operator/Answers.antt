@@ -1,19 +1,14 @@
-use Rattle.std.proofs.Common.{◌∙◌, refl, sym, ap}
-use Rattle.c_values.specs.Typings.{form_of}
-use Rattle.c_type_ids.proofs.TableLaws.{grows_same}
-use Rattle.c_places.proofs.PointerLaws.{address_of_a_local, address_in_memory, no_address}
+use Rattle.std.proofs.Common.{◌∙◌, ap}
+use Rattle.c_typing.specs.Constants.{address_constant}
+use Rattle.c_typing.specs.Expressions.{address_operator}
+use Rattle.c_places.proofs.PointerLaws.{address_answered, handed_over}
 use Rattle.c_places.proofs.pointers.address_operator.Goals as goal
 
-pub returns-in-InLocal-clause-is : goal.returns-in-InLocal-clause-is
-returns-in-InLocal-clause-is c = λ n x same is.
-    address_of_a_local c.args.table.now c.args.node n x same c.in-InLocal.field-0 (ap form_of (sym c.in-InLocal.is) ∙ is.form)
+pub returns-in_err-kind-clause-is : goal.returns-in_err-kind-clause-is
+returns-in_err-kind-clause-is c = λ n x same is.
+    handed_over c.address_type.new.table c.from_residual.result c.in_err-kind.field-0.0 (address_operator n x) c.from_residual.ensures.1 (c.in_err-kind.ensures.is n x same is.type is.form)
 
-pub returns-in-InMemory-clause-is : goal.returns-in-InMemory-clause-is
-returns-in-InMemory-clause-is c = λ n x same is.
-    address_in_memory c.address_of.new.table c.args.node n x same c.address_of.result (ap form_of (sym c.in-InMemory.is) ∙ is.form) (c.address_of.ensures.is x is)
-
-pub returns-in_default : goal.returns-in_default
-returns-in_default c = record {
-  is = λ n x same is. no_address c.args.table.now c.args.node n x same c.args.operand.form is.form c.in_default.not-InLocal c.in_default.not-InMemory;
-  grows = grows_same c.args.table.now c.args.table.now refl;
-}
+pub returns-clause-is : goal.returns-clause-is
+returns-clause-is c = λ n x same is.
+    address_answered c.address_type.new.table c.in_ok-kind.kind c.address_constant.result c.args.operand.code x (address_operator n x) (c.address_constant.ensures ∙ ap address_constant is.constant) is.code
+    (c.in_ok-kind.ensures.is n x same is.type is.form)
