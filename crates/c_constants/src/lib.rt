@@ -13,7 +13,7 @@
 mod constants;
 
 pub use constants::{
-    Constant, address_constant, address_in, both_constant, chosen_constant, converted_word, either_constant,
-    element_at, integer_cast, is_constant, is_null, moved_down, moved_up, operated, part_at,
-    pointer_cast,
+    Constant, address_constant, address_in, both_constant, chosen_constant, converted_word,
+    either_constant, element_at, integer_cast, is_constant, is_null, moved_down, moved_up,
+    operated, part_at, pointer_cast,
 };

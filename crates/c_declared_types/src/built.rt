@@ -12,8 +12,8 @@ ghost use Rattle.c_values.specs.Typings.{IsType};
 ghost use Rattle.c_answers.specs.Answers.{Settles};
 ghost use Rattle.c_declared_types.specs.Steps.{ArePlaced, AreSteps, IsBuilt, IsBuiltId, IsStep};
 
-use c_answers::{Refusal, too_big};
 use crate::steps::{PlacedStep, Step, Steps};
+use c_answers::{Refusal, too_big};
 use c_type_ids::{Kind, TypeTable};
 use c_types::{TypeFault, TypeId, TypeList};
 use c_values::Type;

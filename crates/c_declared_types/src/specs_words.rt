@@ -9,9 +9,9 @@ ghost use Rattle.c_type_ids.specs.Ids.{Grows, Known, Names};
 ghost use Rattle.c_answers.specs.Answers.{Settles};
 ghost use Rattle.c_declared_types.specs.Words.{AreGiven, AreWords, IsStorage, IsWord, Says, said_of};
 
-use c_answers::Refusal;
 use crate::storage::{Storage, StorageWord};
 use crate::type_words::{Base, Length, Said, Sign, TypeWords};
+use c_answers::Refusal;
 use c_type_ids::TypeTable;
 use c_types::TypeId;
 
