@@ -1,0 +1,171 @@
+-- What a change of the tables does to the nodes that are seen in them.
+use Rattle.std.proofs.Common.{◌≡◌, ◌≢◌, ℕ, zero, suc, ◌+◌, ◌<◌, ◌≤◌, true, false, List, [], ◌∷◌, ◌++◌, length, map, get_or, set, refl, sym, ap, ap₂, ◌∙◌, arith, subst}
+use Rattle.std.proofs.lemmas.List.{length-set, length-map, set-set, set-get_or, get_or-set_same, get_or-set_other}
+use Rattle.cp_obstack.specs.Lists.{list_of}
+use Rattle.firm_uses.specs.Tables.{with_list}
+use Rattle.firm_uses.specs.Counts.{renamed, renamed_rows, Used}
+use Rattle.firm_rules.specs.Graphs.{FirmNode}
+use Rattle.firm_tables.specs.declared.nodes.Stored.{Stored}
+use Rattle.firm_tables.specs.Nodes.{no_node, node_of, made, with_operands, gone, without, renamed_node}
+use Rattle.firm_tables.specs.Held.{node_seen, nodes_from, no_row, Covers, AreHeld}
+
+-- ---- what is seen
+
+pub nodes_long : (n : ℕ) (os cs : List (List ℕ)) (rows : List Stored) → length (nodes_from n os cs rows) ≡ length rows
+nodes_long n os cs [] = refl
+nodes_long n os cs (r ∷ rows) = ap suc (nodes_long (suc n) os cs rows)
+
+at_more : (n : ℕ) (os cs : List (List ℕ)) (rows : List Stored) (k m : ℕ) → n + k ≡ m → k < length rows
+    → node_of (nodes_from n os cs rows) k ≡ node_seen os cs m (get_or rows k no_row)
+at_more n os cs [] k m e h = absurd (omega arith)
+at_more n os cs (r ∷ rows) zero m e h = ap (λ i. node_seen os cs i r) (omega (arith, e))
+at_more n os cs (r ∷ rows) (suc k) m e h = at_more (suc n) os cs rows k m (omega (arith, e)) (omega arith)
+
+pub nodes_at : (os cs : List (List ℕ)) (rows : List Stored) (k : ℕ) → k < length rows
+    → node_of (nodes_from 0 os cs rows) k ≡ node_seen os cs k (get_or rows k no_row)
+nodes_at os cs rows k h = at_more 0 os cs rows k k (omega arith) h
+
+-- past the nodes there is no operand
+pub past_nodes : (os cs : List (List ℕ)) (rows : List Stored) (k : ℕ) → length rows ≤ k → node_of (nodes_from 0 os cs rows) k ≡ no_node
+past_nodes os cs rows k h = past (nodes_from 0 os cs rows) k (omega (arith, h, nodes_long 0 os cs rows)) where
+  past : (nodes : List FirmNode) (k : ℕ) → length nodes ≤ k → node_of nodes k ≡ no_node
+  past [] k h = refl
+  past (x ∷ nodes) zero h = absurd (omega arith)
+  past (x ∷ nodes) (suc k) h = past nodes k (omega arith)
+
+-- the same lists, the same nodes
+pub same_seen : (os cs more others : List (List ℕ)) (n : ℕ) (row : Stored) → list_of more n ≡ list_of os n → list_of others n ≡ list_of cs n
+    → node_seen more others n row ≡ node_seen os cs n row
+same_seen os cs more others n row o c =
+    ap₂ (λ operands currents. record { op = row.op; block = row.block; operands = operands; there = row.there; current = get_or currents 0 0 }) o c
+
+pub nodes_same : (n : ℕ) (os cs more others : List (List ℕ)) (rows : List Stored)
+    → ((k : ℕ) → n ≤ k → k < n + length rows → list_of more k ≡ list_of os k)
+    → ((k : ℕ) → n ≤ k → k < n + length rows → list_of others k ≡ list_of cs k)
+    → nodes_from n more others rows ≡ nodes_from n os cs rows
+nodes_same n os cs more others [] o c = refl
+nodes_same n os cs more others (r ∷ rows) o c =
+    ap₂ (λ a b. a ∷ b) (same_seen os cs more others n r (o n (omega arith) (omega arith)) (c n (omega arith) (omega arith)))
+    (nodes_same (suc n) os cs more others rows (λ k lo hi. o k (omega arith) (omega arith)) (λ k lo hi. c k (omega arith) (omega arith)))
+
+-- ---- a new node
+
+pushed_from : (n m : ℕ) (os cs more others : List (List ℕ)) (rows : List Stored) (row : Stored) → n + length rows ≡ m
+    → ((k : ℕ) → k ≢ m → list_of more k ≡ list_of os k) → ((k : ℕ) → k ≢ m → list_of others k ≡ list_of cs k)
+    → nodes_from n more others (rows ++ row ∷ []) ≡ nodes_from n os cs rows ++ node_seen more others m row ∷ []
+pushed_from n m os cs more others [] row e o c = ap (λ i. node_seen more others i row ∷ []) (omega (arith, e))
+pushed_from n m os cs more others (r ∷ rows) row e o c =
+    ap₂ (λ a b. a ∷ b) (same_seen os cs more others n r (o n (omega (arith, e))) (c n (omega (arith, e))))
+    (pushed_from (suc n) m os cs more others rows row (omega (arith, e)) o c)
+
+pub node_made : (os cs more others : List (List ℕ)) (rows : List Stored) (row : Stored) (operands : List ℕ) → row.there ≡ true
+    → list_of more (length rows) ≡ operands → list_of others (length rows) ≡ length rows ∷ []
+    → ((k : ℕ) → k ≢ length rows → list_of more k ≡ list_of os k) → ((k : ℕ) → k ≢ length rows → list_of others k ≡ list_of cs k)
+    → nodes_from 0 more others (rows ++ row ∷ []) ≡ nodes_from 0 os cs rows ++ made (length (nodes_from 0 os cs rows)) row.op row.block operands ∷ []
+node_made os cs more others rows row operands there now own o c =
+    pushed_from 0 (length rows) os cs more others rows row (omega arith) o c
+    ∙ ap (λ node. nodes_from 0 os cs rows ++ node ∷ [])
+    (made_of (length rows) row.there (list_of more (length rows)) (list_of others (length rows)) there now own
+        ∙ ap (λ n. made n row.op row.block operands) (sym (nodes_long 0 os cs rows)))
+where
+  made_of : (n : ℕ) (is : _) (uses current : List ℕ) → is ≡ true → uses ≡ operands → current ≡ n ∷ []
+      → record { op = row.op; block = row.block; operands = uses; there = is; current = get_or current 0 0 } ≡ made n row.op row.block operands
+  made_of n is uses current a b d =
+      ap₂ (λ i u. record { op = row.op; block = row.block; operands = u; there = i; current = get_or current 0 0 }) a b
+      ∙ ap (λ u. record { op = row.op; block = row.block; operands = operands; there = true; current = get_or u 0 0 }) d
+
+-- ---- one node changes
+
+set_from : (n m : ℕ) (os cs more : List (List ℕ)) (rows : List Stored) (k : ℕ) (row : Stored) → n + k ≡ m
+    → ((j : ℕ) → j ≢ m → list_of more j ≡ list_of os j)
+    → nodes_from n more cs (set rows k row) ≡ set (nodes_from n os cs rows) k (node_seen more cs m row)
+set_from n m os cs more [] k row e o = refl
+set_from n m os cs more (r ∷ rows) zero row e o =
+    ap₂ (λ i b. node_seen more cs i row ∷ b) (omega (arith, e))
+    (nodes_same (suc n) os cs more cs rows (λ k lo hi. o k (omega (arith, e, lo))) (λ k lo hi. refl))
+set_from n m os cs more (r ∷ rows) (suc k) row e o =
+    ap₂ (λ a b. a ∷ b) (same_seen os cs more cs n r (o n (omega (arith, e))) refl) (set_from (suc n) m os cs more rows k row (omega (arith, e)) o)
+
+set_own : (rows : List Stored) (k : ℕ) (d : Stored) → set rows k (get_or rows k d) ≡ rows
+set_own rows k d = set-get_or rows k d
+
+-- the operands of one node are these
+pub operands_are : (os cs more : List (List ℕ)) (rows : List Stored) (k : ℕ) (list : List ℕ) → k < length rows → k < length os
+    → more ≡ with_list os k list → nodes_from 0 more cs rows ≡ with_operands (nodes_from 0 os cs rows) k list
+operands_are os cs more rows k list h there e =
+    let others : (j : ℕ) → j ≢ k → list_of more j ≡ list_of os j = λ j ne. ap (λ ls. list_of ls j) e ∙ get_or-set_other os k j list [] ne in
+    let own : list_of more k ≡ list = ap (λ ls. list_of ls k) e ∙ get_or-set_same os k list [] there in
+    ap (nodes_from 0 more cs) (sym (set_own rows k no_row)) ∙ set_from 0 k os cs more rows k (get_or rows k no_row) (omega arith) others
+    ∙ ap (λ (node : FirmNode). set (nodes_from 0 os cs rows) k node)
+    (ap (λ (l : List ℕ). record (node_seen os cs k (get_or rows k no_row)) { operands = l }) own
+        ∙ ap (λ (node : FirmNode). record node { operands = list }) (sym (nodes_at os cs rows k h)))
+
+-- one node is gone
+pub node_gone : (os cs more : List (List ℕ)) (rows : List Stored) (k : ℕ) (row was : Stored) → k < length rows → k < length os
+    → more ≡ with_list os k [] → was ≡ get_or rows k no_row → row ≡ record was { there = false }
+    → nodes_from 0 more cs (set rows k row) ≡ without (nodes_from 0 os cs rows) k
+node_gone os cs more rows k row was h there e w r =
+    let others : (j : ℕ) → j ≢ k → list_of more j ≡ list_of os j = λ j ne. ap (λ ls. list_of ls j) e ∙ get_or-set_other os k j [] [] ne in
+    let own : list_of more k ≡ [] = ap (λ ls. list_of ls k) e ∙ get_or-set_same os k [] [] there in
+    set_from 0 k os cs more rows k row (omega arith) others
+    ∙ ap (λ (node : FirmNode). set (nodes_from 0 os cs rows) k node)
+    (ap₂ (λ (l : List ℕ) (s : Stored). record { op = s.op; block = s.block; operands = l; there = s.there; current = get_or (list_of cs k) 0 0 }) own r
+        ∙ ap (λ (s : Stored). gone (node_seen os cs k s)) w ∙ ap gone (sym (nodes_at os cs rows k h)))
+
+-- ---- a node in the place of another
+
+renamed_list : (old to : ℕ) (lists : List (List ℕ)) (k : ℕ) → list_of (renamed_rows old to lists) k ≡ map (renamed old to) (list_of lists k)
+renamed_list old to [] k = refl
+renamed_list old to (l ∷ lists) zero = refl
+renamed_list old to (l ∷ lists) (suc k) = renamed_list old to lists k
+
+renamed_current : (old to : ℕ) (list : List ℕ) → length list ≡ 1 → get_or (map (renamed old to) list) 0 0 ≡ renamed old to (get_or list 0 0)
+renamed_current old to [] e = absurd (omega (arith, e))
+renamed_current old to (x ∷ list) e = refl
+
+pub nodes_renamed : (n old to : ℕ) (os cs : List (List ℕ)) (rows : List Stored) → ((k : ℕ) → n ≤ k → k < n + length rows → length (list_of cs k) ≡ 1)
+    → nodes_from n (renamed_rows old to os) (renamed_rows old to cs) rows ≡ map (renamed_node old to) (nodes_from n os cs rows)
+nodes_renamed n old to os cs [] h = refl
+nodes_renamed n old to os cs (r ∷ rows) h =
+    ap₂ (λ a b. a ∷ b)
+    (ap₂ (λ (operands : List ℕ) (current : ℕ). record { op = r.op; block = r.block; operands = operands; there = r.there; current = current })
+        (renamed_list old to os n)
+        (ap (λ l. get_or l 0 0) (renamed_list old to cs n) ∙ renamed_current old to (list_of cs n) (h n (omega arith) (omega arith))))
+    (nodes_renamed (suc n) old to os cs rows (λ k lo hi. h k (omega arith) (omega arith)))
+
+-- ---- what always holds
+
+pub covers_set : (count k : ℕ) (list : List ℕ) (used after : Used) → Covers count used → after.uses ≡ with_list used.uses k list
+    → length after.loads ≡ length used.loads → Covers count after
+covers_set count k list used after c e l = record {
+  users = omega (arith, c.users, ap length e, length-set used.uses k list);
+  used_ones = omega (arith, c.used_ones, l);
+}
+
+pub held_set : (count k : ℕ) (list : List ℕ) (operands currents after : Used) → AreHeld count operands currents → k < count
+    → after.uses ≡ with_list operands.uses k list → length after.loads ≡ length operands.loads → AreHeld count after currents
+held_set count k list operands currents after a h e l = record {
+  operands_cover = covers_set count k list operands after a.operands_cover e l;
+  currents_cover = a.currents_cover;
+  empty = λ n le. ap (λ ls. list_of ls n) e ∙ get_or-set_other operands.uses k n list [] (omega (arith, h, le)) ∙ a.empty n le;
+  own = a.own;
+}
+
+renamed_none : (old to : ℕ) (list : List ℕ) → list ≡ [] → map (renamed old to) list ≡ []
+renamed_none old to list e = ap (map (renamed old to)) e
+
+pub held_renamed : (count old to : ℕ) (operands currents more others : Used) → AreHeld count operands currents
+    → more.uses ≡ renamed_rows old to operands.uses → length more.loads ≡ length operands.loads
+    → others.uses ≡ renamed_rows old to currents.uses → length others.loads ≡ length currents.loads → AreHeld count more others
+held_renamed count old to operands currents more others a o ol c cl = record {
+  operands_cover = record {
+    users = omega (arith, a.operands_cover.users, ap length o, length-map operands.uses (map (renamed old to)));
+    used_ones = omega (arith, a.operands_cover.used_ones, ol);
+  };
+  currents_cover = record {
+    users = omega (arith, a.currents_cover.users, ap length c, length-map currents.uses (map (renamed old to)));
+    used_ones = omega (arith, a.currents_cover.used_ones, cl);
+  };
+  empty = λ n le. ap (λ ls. list_of ls n) o ∙ renamed_list old to operands.uses n ∙ renamed_none old to (list_of operands.uses n) (a.empty n le);
+  own = λ n lt. ap (λ ls. length (list_of ls n)) c ∙ ap length (renamed_list old to currents.uses n) ∙ length-map (list_of currents.uses n) (renamed old to) ∙ a.own n lt;
+}
