@@ -1,2 +1,4 @@
 pub mod NodeLaws
 pub mod BlockLaws
+pub mod EqualLaws
+pub mod MemberLaws

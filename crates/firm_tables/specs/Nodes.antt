@@ -1,5 +1,5 @@
 -- Changes of the list of a graph's nodes, each at its number.
-use Rattle.std.specs.Prelude.{ℕ, ◌==◌, Bool, true, false, ◌&&◌, List, [], map, slice_index_or, slice_set}
+use Rattle.std.specs.Prelude.{◌≡◌, ℕ, ◌==◌, Bool, true, false, ◌&&◌, List, [], map, slice_index_or, slice_set}
 use Rattle.firm_rules.specs.declared.node.NodeId.{NodeId}
 use Rattle.firm_rules.specs.declared.node.NodeOp.{NodeOp}
 use Rattle.firm_rules.specs.declared.node.NodeOp.TheVariants.{Unknown}
@@ -24,6 +24,13 @@ stands_in node b = node.there && (node.block == b)
 -- a new node, which is its own
 abbrev pub made : ℕ → NodeOp → ℕ → List ℕ → FirmNode
 made n op block operands = record { op = op; block = block; operands = operands; there = true; current = n }
+
+-- a node of the block with this operation and these operands
+pub record IsLike (nodes : List FirmNode) (op : NodeOp) (b : ℕ) (operands : List ℕ) (n : ℕ) : Type 0 where
+  pub there : (node_of nodes n).there ≡ true
+  pub op_is : (node_of nodes n).op ≡ op
+  pub block_is : (node_of nodes n).block ≡ b
+  pub operands_are : (node_of nodes n).operands ≡ operands
 
 -- the node has these operands
 abbrev pub with_operands : List FirmNode → ℕ → List ℕ → List FirmNode

@@ -51,7 +51,8 @@ impl Members {
         ensures others { (other : ℕ) → other ≢ block → list_of self.new other ≡ list_of self.old other }
     {
         self.widen(block)?;
-        self.lists[block].push(NodeId { number: node })
+        self.lists[block].push(NodeId { number: node })?;
+        Ok(())
     }
 
     // The block has a list.

@@ -1,8 +1,8 @@
 // The nodes by their numbers, with who uses them.
-ghost use Rattle.std.specs.Prelude.{◌≡◌, ◌≢◌, ◌<◌, [], ◌∷◌, ◌++◌, ℕ, true, length, map, if◌then◌else◌, slice_index, OnOk, OnErr, IfOk};
+ghost use Rattle.std.specs.Prelude.{◌≡◌, ◌≢◌, ◌<◌, [], ◌∷◌, ◌++◌, ℕ, true, ⊥, MatchBool, length, map, if◌then◌else◌, slice_index, OnOk, OnErr, IfOk};
 ghost use Rattle.std.specs.List.{remove};
 ghost use Rattle.firm_uses.specs.Counts.{times};
-ghost use Rattle.firm_tables.specs.Nodes.{numbers, stands_in, node_of, made, with_operands, without, renamed_node, replaced};
+ghost use Rattle.firm_tables.specs.Nodes.{numbers, stands_in, IsLike, node_of, made, with_operands, without, renamed_node, replaced};
 
 use crate::members::Members;
 use crate::uses::{be_own, enter};
@@ -117,6 +117,18 @@ impl Nodes {
         self.rows[number].there
     }
 
+    /// Whether the node is there in the block, and has this operation and these operands.
+    pub fn is_like(&self, number: usize, op: NodeOp, block: usize, operands: &[NodeId]) -> bool
+        requires { number < length self.now }
+        ensures { MatchBool result (IsLike self.now op block (numbers operands.now) number) (IsLike self.now op block (numbers operands.now) number → ⊥) }
+    {
+        let row = self.rows[number];
+        row.there
+            && row.op == op
+            && row.block == block
+            && are_numbers(self.operands.list(number), operands)
+    }
+
     /// What is now in the place of the node.
     pub fn current(&self, number: usize) -> usize
         requires { number < length self.now }
@@ -208,4 +220,19 @@ impl Nodes {
         let _ = self.currents.replace(old, to);
         Ok(())
     }
+}
+
+// The list is the numbers of the nodes.
+fn are_numbers(list: &[usize], nodes: &[NodeId]) -> bool
+    ensures { MatchBool result (list.now ≡ numbers nodes.now) (list.now ≡ numbers nodes.now → ⊥) }
+{
+    if list.len() != nodes.len() {
+        return false;
+    }
+    for index in 0..list.len() {
+        if list[index] != nodes[index].number {
+            return false;
+        }
+    }
+    true
 }

@@ -1,0 +1,151 @@
+-- The nodes that each block lists.
+use Rattle.std.proofs.Common.{◌≡◌, ◌≢◌, ◌==◌, ℕ, zero, suc, ◌+◌, ◌<◌, ◌≤◌, Bool, true, false, ◌&&◌, List, [], ◌∷◌, ◌++◌, length, map, get_or, set, refl, sym, ap, ap₂, ◌∙◌, arith, subst, if◌then◌else◌, cond, inl, inr, true≢false}
+use Rattle.std.proofs.lemmas.Bool.{cases_eq, eq-eqb, ne_eqb}
+use Rattle.std.proofs.lemmas.List.{get_or-set_same, get_or-set_other, get_or_append_left, get_or_at, length-set}
+use Rattle.std.specs.List.{remove}
+use Rattle.cp_obstack.specs.Lists.{list_of}
+use Rattle.firm_uses.specs.Counts.{times}
+use Rattle.firm_uses.proofs.CountLaws.{one, one_same, one_other, times_push, times-remove, times_front}
+use Rattle.firm_rules.specs.declared.node.NodeId.{NodeId}
+use Rattle.firm_rules.specs.Graphs.{FirmNode}
+use Rattle.firm_tables.specs.declared.nodes.Stored.{Stored}
+use Rattle.firm_tables.specs.Nodes.{numbers, stands_in, no_node, node_of}
+use Rattle.firm_tables.specs.Held.{nodes_from, node_seen, no_row, is_in, AreMembers}
+use Rattle.firm_tables.proofs.NodeLaws.{nodes_at, past_nodes}
+
+-- 1 where the row's node is there in the block
+abbrev pub count : Stored → ℕ → ℕ
+count row b = if is_in row b then 1 else 0
+
+and_false : (x : Bool) → (x && false) ≡ false
+and_false true = refl
+and_false false = refl
+
+in_other : (row : Stored) (b : ℕ) → row.block ≢ b → count row b ≡ 0
+in_other row b ne = ap (λ x. cond (row.there && x) 1 0) (ne_eqb row.block b ne) ∙ ap (λ x. cond x 1 0) (and_false row.there)
+
+in_own : (row : Stored) (b : ℕ) → row.there ≡ true → row.block ≡ b → count row b ≡ 1
+in_own row b there e = ap₂ (λ x y. cond (x && y) 1 0) there (eq-eqb row.block b e)
+
+in_none : (row : Stored) (b : ℕ) → row.there ≡ false → count row b ≡ 0
+in_none row b gone = ap (λ x. cond (x && (row.block == b)) 1 0) gone
+
+pub past_rows : (rows : List Stored) (n : ℕ) → length rows ≤ n → get_or rows n no_row ≡ no_row
+past_rows [] n h = refl
+past_rows (r ∷ rows) zero h = absurd (omega arith)
+past_rows (r ∷ rows) (suc n) h = past_rows rows n (omega arith)
+
+-- a node that is there has a row
+pub there_within : (rows : List Stored) (n : ℕ) → (get_or rows n no_row).there ≡ true → n < length rows
+there_within [] n e = absurd (true≢false (sym e))
+there_within (r ∷ rows) zero e = omega arith
+there_within (r ∷ rows) (suc n) e = omega (arith, there_within rows n e)
+
+-- what is read of a node tells of its row
+pub there_row : (os cs : List (List ℕ)) (rows : List Stored) (n : ℕ) → (node_of (nodes_from 0 os cs rows) n).there ≡ (get_or rows n no_row).there
+there_row os cs rows n = elim (within n (length rows)) [
+  | inl lt ↦ ap (λ (node : FirmNode). node.there) (nodes_at os cs rows n lt)
+  | inr le ↦ ap (λ (node : FirmNode). node.there) (past_nodes os cs rows n le) ∙ sym (ap (λ (r : Stored). r.there) (past_rows rows n le))
+] where
+  within : (a b : ℕ) → (a < b) ⊎ (b ≤ a)
+  within a b = omega arith
+
+pub stands_row : (os cs : List (List ℕ)) (rows : List Stored) (n b : ℕ) → stands_in (node_of (nodes_from 0 os cs rows) n) b ≡ is_in (get_or rows n no_row) b
+stands_row os cs rows n b = elim (within n (length rows)) [
+  | inl lt ↦ ap (λ (node : FirmNode). stands_in node b) (nodes_at os cs rows n lt)
+  | inr le ↦ ap (λ (node : FirmNode). stands_in node b) (past_nodes os cs rows n le) ∙ sym (ap (λ (r : Stored). is_in r b) (past_rows rows n le))
+] where
+  within : (a b : ℕ) → (a < b) ⊎ (b ≤ a)
+  within a b = omega arith
+
+-- ---- a node that comes
+
+pub member_made : (rows : List Stored) (members after : List (List ℕ)) (row : Stored) → AreMembers rows members → row.there ≡ true
+    → list_of after row.block ≡ list_of members row.block ++ length rows ∷ []
+    → ((b : ℕ) → b ≢ row.block → list_of after b ≡ list_of members b) → AreMembers (rows ++ row ∷ []) after
+member_made rows members after row a there own others b n = elim (cases_eq n (length rows)) [
+  | inl new ↦
+      let read : get_or (rows ++ row ∷ []) n no_row ≡ row = get_or_at rows row [] no_row n (sym new) in
+      let was : count (get_or rows n no_row) b ≡ 0 = ap (λ r. count r b) (past_rows rows n (omega (arith, new))) in
+      elim (cases_eq b row.block) [
+        | inl here ↦ ap (λ c. times n (list_of after c)) here ∙ ap (times n) own ∙ times_push n (list_of members row.block) (length rows)
+            ∙ omega (arith, a b n, was, ap (λ c. times n (list_of members c)) here, ap (one n) (sym new), one_same n)
+            ∙ sym (in_own row b there (sym here)) ∙ sym (ap (λ r. count r b) read)
+        | inr ne ↦ ap (times n) (others b ne) ∙ a b n ∙ was ∙ sym (in_other row b (λ e. ne (sym e))) ∙ sym (ap (λ r. count r b) read)
+      ]
+  | inr old ↦
+      let read : count (get_or (rows ++ row ∷ []) n no_row) b ≡ count (get_or rows n no_row) b = ap (λ r. count r b) (read_old n old) in
+      elim (cases_eq b row.block) [
+        | inl here ↦ ap (λ c. times n (list_of after c)) here ∙ ap (times n) own ∙ times_push n (list_of members row.block) (length rows)
+            ∙ omega (arith, ap (λ c. times n (list_of members c)) here, one_other n (length rows) (λ e. old (sym e))) ∙ a b n ∙ sym read
+        | inr ne ↦ ap (times n) (others b ne) ∙ a b n ∙ sym read
+      ]
+] where
+  read_old : (n : ℕ) → n ≢ length rows → get_or (rows ++ row ∷ []) n no_row ≡ get_or rows n no_row
+  read_old n ne = from rows n ne where
+    from : (rows : List Stored) (n : ℕ) → n ≢ length rows → get_or (rows ++ row ∷ []) n no_row ≡ get_or rows n no_row
+    from [] zero ne = absurd (ne refl)
+    from [] (suc n) ne = refl
+    from (r ∷ rows) zero ne = refl
+    from (r ∷ rows) (suc n) ne = from rows n (λ e. ne (ap suc e))
+
+-- ---- a node that goes
+
+pub has_member : (rows : List Stored) (members : List (List ℕ)) (n : ℕ) (row : Stored) → AreMembers rows members → row ≡ get_or rows n no_row → row.there ≡ true
+    → 0 < times n (list_of members row.block)
+has_member rows members n row a e there = omega (arith, a row.block n, ap (λ r. count r row.block) e, in_own row row.block there refl)
+
+pub member_gone : (rows : List Stored) (members after : List (List ℕ)) (n : ℕ) (row was : Stored) → AreMembers rows members → was ≡ get_or rows n no_row
+    → was.there ≡ true → row ≡ record was { there = false }
+    → ((x : ℕ) → times x (list_of after was.block) + (one x n + 0) ≡ times x (list_of members was.block))
+    → ((b : ℕ) → b ≢ was.block → list_of after b ≡ list_of members b) → AreMembers (set rows n row) after
+member_gone rows members after n row was a w there r own others b x =
+    let within : n < length rows = there_within rows n (ap (λ (s : Stored). s.there) (sym w) ∙ there) in
+    elim (cases_eq x n) [
+      | inl this ↦
+          let read : count (get_or (set rows n row) x no_row) b ≡ 0 =
+          ap (λ k. count (get_or (set rows n row) k no_row) b) this ∙ ap (λ s. count s b) (get_or-set_same rows n row no_row within)
+          ∙ in_none row b (ap (λ (s : Stored). s.there) r) in
+          let before : times x (list_of members b) ≡ count was b = a b x ∙ ap (λ k. count (get_or rows k no_row) b) this ∙ sym (ap (λ s. count s b) w) in
+          elim (cases_eq b was.block) [
+            | inl here ↦ omega (
+              arith,
+              own x,
+              ap (one x) (sym this),
+              one_same x,
+              ap (λ c. times x (list_of after c)) here,
+              ap (λ c. times x (list_of members c)) here,
+              before,
+              in_own was b there (sym here),
+            ) ∙ sym read
+            | inr ne ↦ ap (times x) (others b ne) ∙ before ∙ in_other was b (λ e. ne (sym e)) ∙ sym read
+          ]
+      | inr other ↦
+          let read : count (get_or (set rows n row) x no_row) b ≡ count (get_or rows x no_row) b = ap (λ s. count s b) (get_or-set_other rows n x row no_row other) in
+          elim (cases_eq b was.block) [
+            | inl here ↦ omega (
+              arith,
+              own x,
+              one_other x n (λ e. other (sym e)),
+              ap (λ c. times x (list_of after c)) here,
+              ap (λ c. times x (list_of members c)) here,
+            ) ∙ a b x ∙ sym read
+            | inr ne ↦ ap (times x) (others b ne) ∙ a b x ∙ sym read
+          ]
+    ]
+
+-- ---- lists of nodes, by their numbers
+
+pub numbers_removed : (list : List NodeId) (i : ℕ) → numbers (remove list i) ≡ remove (numbers list) i
+numbers_removed [] i = refl
+numbers_removed (x ∷ list) zero = refl
+numbers_removed (x ∷ list) (suc i) = ap (λ l. x.number ∷ l) (numbers_removed list i)
+
+pub number_at : (list : List NodeId) (i : ℕ) (d : NodeId) → i < length list → get_or (numbers list) i 0 ≡ (get_or list i d).number
+number_at [] i d h = absurd (omega arith)
+number_at (x ∷ list) zero d h = refl
+number_at (x ∷ list) (suc i) d h = number_at list i d (omega arith)
+
+pub numbers_long : (list : List NodeId) → length (numbers list) ≡ length list
+numbers_long [] = refl
+numbers_long (x ∷ list) = ap suc (numbers_long list)
