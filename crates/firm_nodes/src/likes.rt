@@ -1,5 +1,5 @@
 // Equal nodes.
-ghost use Rattle.std.specs.Prelude.{◌≡◌, ◌<◌, [], ℕ, true, ⊥, length, IfSome, IfNone, MatchBool, slice_index};
+ghost use Rattle.std.specs.Prelude.{◌≡◌, ◌<◌, [], ℕ, true, length, IfSome, IfNone, MatchBool, slice_index};
 ghost use Rattle.firm_rules.specs.Graphs.{is_pure as op_is_pure};
 ghost use Rattle.firm_tables.specs.Nodes.{numbers, IsLike};
 

@@ -1,13 +1,15 @@
 -- What a change of the tables does to the blocks that are seen in them.
-use Rattle.std.proofs.Common.{◌≡◌, ◌≢◌, ◌==◌, ℕ, zero, suc, ◌+◌, ◌<◌, ◌≤◌, Bool, true, false, List, [], ◌∷◌, ◌++◌, length, take, drop, map, get_or, set, refl, sym, ap, ap₂, ◌∙◌, arith, subst, Option, Some, None, if◌then◌else◌, cond, inl, inr}
-use Rattle.std.proofs.lemmas.Bool.{cases_eq, eq-eqb, ne_eqb}
-use Rattle.std.proofs.lemmas.List.{length-set, length-map, set-set, set-get_or, get_or-set_same, get_or-set_other, take_at, take_all, drop_all, append-nil}
+use Rattle.std.proofs.Common.{◌≡◌, ◌≢◌, ◌==◌, ℕ, zero, suc, ◌+◌, ◌<◌, ◌≤◌, Bool, true, false, List, [], ◌∷◌, ◌++◌, length, take, drop, map, get_or, set, refl, sym, ap, ap₂, ◌∙◌, arith, subst, Option, Some, None, inl, inr, Result, Ok, Err, IsOk, is_ok, OnOk, OnErr, if◌then◌else◌}
+use Rattle.std.proofs.lemmas.List.{length-set, length-map, set-set, set-get_or, get_or-set_same, get_or-set_other, get_or_default, take_at, take_all, drop_all, append-nil}
+use Rattle.std.proofs.Math.Numerals.{suc-eq-add-one}
 use Rattle.cp_obstack.specs.Lists.{list_of}
 use Rattle.firm_uses.specs.Tables.{with_list}
 use Rattle.firm_rules.specs.declared.node.NodeId.{NodeId}
+use Rattle.firm_rules.specs.declared.node.BlockId.{BlockId}
 use Rattle.firm_rules.specs.declared.node.FirmEnd.{FirmEnd}
+use Rattle.firm_rules.specs.declared.node.FirmEnd.TheVariants.{Jump, Branch}
+use Rattle.firm_rules.specs.Lookups.{targets}
 use Rattle.firm_rules.specs.Graphs.{FirmBlock}
-use Rattle.firm_rules.specs.Replacing.{renamed, renamed_id, renamed_end}
 use Rattle.firm_tables.specs.declared.blocks.StoredBlock.{StoredBlock}
 use Rattle.firm_tables.specs.Blocks.{new_block, block_of, with_preds, with_end, sealed_at, linked, renamed_block}
 use Rattle.firm_tables.specs.Held.{block_seen, blocks_from, AreListed, pushed, renamed_row}
@@ -161,9 +163,102 @@ pub row_turn : (old to : ℕ) (rows now : List StoredBlock) (at : ℕ) (row was 
     → was ≡ get_or now at was → row ≡ renamed_row old to was → set now at row ≡ renamed_first old to rows (at + 1)
 row_turn old to rows now at row was h n w r =
     let is : was ≡ get_or rows at was = w ∙ ap (λ l. get_or l at was) n ∙ first_read old to rows at was in
-    ap₂ (λ (l : List StoredBlock) (x : StoredBlock). set l at x) n (r ∙ ap (renamed_row old to) is) ∙ first_turn old to rows at was h
-    ∙ ap (renamed_first old to rows) (omega arith)
+    ap₂ (λ (l : List StoredBlock) (x : StoredBlock). set l at x) n (r ∙ ap (λ (x : StoredBlock). renamed_row old to x) is) ∙ first_turn old to rows at was h
+    ∙ ap (renamed_first old to rows) (suc-eq-add-one at)
 
 pub row_end : (old to : ℕ) (rows now : List StoredBlock) (at : ℕ) → now ≡ renamed_first old to rows at → length rows ≤ at → now ≡ map (renamed_row old to) rows
 row_end old to rows now at n h =
     n ∙ ap₂ (λ (a b : List StoredBlock). map (renamed_row old to) a ++ b) (take_all at rows h) (drop_all at rows h) ∙ append-nil (map (renamed_row old to) rows)
+
+-- ---- what is read
+
+pub block_there : (preds : List (List ℕ)) (rows : List StoredBlock) (blocks : List FirmBlock) (k : ℕ) → blocks_from 0 preds rows ≡ blocks → k < length blocks → k < length rows
+block_there preds rows blocks k v h = omega (arith, h, ap length v, blocks_long 0 preds rows)
+
+pub list_there : (preds : List (List ℕ)) (rows : List StoredBlock) (blocks : List FirmBlock) (k : ℕ) → blocks_from 0 preds rows ≡ blocks → AreListed (length rows) preds
+    → k < length blocks → k < length preds
+list_there preds rows blocks k v a h = omega (arith, block_there preds rows blocks k v h, a.cover)
+
+pub row_is : (rows : List StoredBlock) (k : ℕ) (row : StoredBlock) → k < length rows → row ≡ get_or rows k row → row ≡ get_or rows k no_block
+row_is rows k row h e = e ∙ get_or_default rows k row no_block h
+
+pub seen_block : (preds : List (List ℕ)) (rows : List StoredBlock) (blocks : List FirmBlock) (k : ℕ) (row : StoredBlock) → blocks_from 0 preds rows ≡ blocks → k < length blocks
+    → row ≡ get_or rows k row → block_seen preds k row ≡ block_of blocks k
+seen_block preds rows blocks k row v h e =
+    let there = block_there preds rows blocks k v h in
+    ap (λ (r : StoredBlock). block_seen preds k r) (row_is rows k row there e) ∙ sym (blocks_at preds rows k there) ∙ ap (λ bs. block_of bs k) v
+
+pub seen_preds : (preds : List (List ℕ)) (rows : List StoredBlock) (blocks : List FirmBlock) (k : ℕ) → blocks_from 0 preds rows ≡ blocks → k < length blocks
+    → list_of preds k ≡ (block_of blocks k).preds
+seen_preds preds rows blocks k v h = preds_seen preds rows k (block_there preds rows blocks k v h) ∙ ap (λ bs. (block_of bs k).preds) v
+
+-- ---- results
+
+pub any_err : {T E P : Type 0} (r : Result T E) → P → OnErr r P
+any_err (Ok x) p = tt
+any_err (Err e) p = p
+
+pub then_ok : {T E P Q : Type 0} (r : Result T E) → OnOk r P → (P → Q) → OnOk r Q
+then_ok (Ok x) p f = f p
+then_ok (Err e) p f = tt
+
+pub then_err : {T E P Q : Type 0} (r : Result T E) → OnErr r P → (P → Q) → OnErr r Q
+then_err (Ok x) p f = tt
+then_err (Err e) p f = f p
+
+pub in_time : {X T E : Type 0} (r : Result T E) (now all before : List X) (x : X) → IsOk r → now ≡ (if is_ok r then all ++ x ∷ [] else all) → all ≡ before
+    → now ≡ before ++ x ∷ []
+in_time r now all before x h e b = e ∙ ap (λ t. if t then all ++ x ∷ [] else all) h ∙ ap (λ l. l ++ x ∷ []) b
+
+-- ---- predecessors that come
+
+pub undone : (rows now after : List (List ℕ)) (first from len : ℕ) → first < length rows → now ≡ pushed rows first from → len ≡ length (list_of rows first)
+    → after ≡ with_list now first (take len (list_of now first)) → after ≡ rows
+undone rows now after first from len h n l a =
+    let list = list_of rows first in
+    let held : list_of now first ≡ list ++ from ∷ [] = ap (λ rs. list_of rs first) n ∙ get_or-set_same rows first (list ++ from ∷ []) [] h in
+    a ∙ ap₂ (λ (rs : List (List ℕ)) (m : List ℕ). with_list rs first m) n (ap (take len) held ∙ take_at list (from ∷ []) len (sym l))
+    ∙ set-set rows first (list ++ from ∷ []) list ∙ set-get_or rows first []
+
+abbrev pub Within : Option FirmEnd → ℕ → Type 0
+Within end n = (index : ℕ) → index < length (targets end) → get_or (targets end) index 0 < n
+
+pub jump_there : (end : FirmEnd) (to : BlockId) (n : ℕ) → end ≡ Jump to → Within (Some end) n → to.number < n
+jump_there end to n e h = (subst (λ x. Within (Some x) n) e h) 0 (omega arith)
+
+pub first_there : (end : FirmEnd) (node : NodeId) (first second : BlockId) (n : ℕ) → end ≡ Branch node first second → Within (Some end) n → first.number < n
+first_there end node first second n e h = (subst (λ x. Within (Some x) n) e h) 0 (omega arith)
+
+pub second_there : (end : FirmEnd) (node : NodeId) (first second : BlockId) (n : ℕ) → end ≡ Branch node first second → Within (Some end) n → second.number < n
+second_there end node first second n e h = (subst (λ x. Within (Some x) n) e h) 1 (omega arith)
+
+pub link_jump : (preds more : List (List ℕ)) (rows : List StoredBlock) (blocks : List FirmBlock) (from : ℕ) (end : FirmEnd) (to : BlockId)
+    → blocks_from 0 preds rows ≡ blocks → AreListed (length rows) preds → to.number < length blocks → end ≡ Jump to → more ≡ pushed preds to.number from
+    → blocks_from 0 more rows ≡ linked from blocks (targets (Some end))
+link_jump preds more rows blocks from end to v a h e m =
+    pred_pushed preds more rows to.number from (block_there preds rows blocks to.number v h) (list_there preds rows blocks to.number v a h) m
+    ∙ ap (λ bs. linked from bs (to.number ∷ [])) v ∙ ap (λ x. linked from blocks (targets (Some x))) (sym e)
+
+pub link_both : (preds more : List (List ℕ)) (rows : List StoredBlock) (blocks : List FirmBlock) (from : ℕ) (end : FirmEnd) (node : NodeId) (first second : BlockId)
+    → blocks_from 0 preds rows ≡ blocks → AreListed (length rows) preds → first.number < length blocks → second.number < length blocks
+    → end ≡ Branch node first second → more ≡ pushed (pushed preds first.number from) second.number from
+    → blocks_from 0 more rows ≡ linked from blocks (targets (Some end))
+link_both preds more rows blocks from end node first second v a h k e m =
+    let between = pushed preds first.number from in
+    let one : blocks_from 0 between rows ≡ with_preds (blocks_from 0 preds rows) first.number ((block_of (blocks_from 0 preds rows) first.number).preds ++ from ∷ []) =
+    pred_pushed preds between rows first.number from (block_there preds rows blocks first.number v h) (list_there preds rows blocks first.number v a h) refl in
+    let long : second.number < length between = omega (arith, list_there preds rows blocks second.number v a k, length-set preds first.number (list_of preds first.number ++ from ∷ [])) in
+    pred_pushed between more rows second.number from (block_there preds rows blocks second.number v k) long m
+    ∙ ap (λ bs. linked from bs (second.number ∷ [])) one
+    ∙ ap (λ bs. linked from bs (first.number ∷ second.number ∷ [])) v ∙ ap (λ x. linked from blocks (targets (Some x))) (sym e)
+
+pub listed_both : (count from first second : ℕ) (preds more : List (List ℕ)) → AreListed count preds → first < count → second < count
+    → more ≡ pushed (pushed preds first from) second from → AreListed count more
+listed_both count from first second preds more a h k m =
+    listed_set count second (list_of (pushed preds first from) second ++ from ∷ []) (pushed preds first from) more
+    (listed_set count first (list_of preds first ++ from ∷ []) preds (pushed preds first from) a h refl) k m
+
+pub listed_ok : {T E : Type 0} (r : Result T E) (count : ℕ) (preds more : List (List ℕ)) → AreListed count preds → OnOk r (AreListed count more) → OnErr r (more ≡ preds)
+    → AreListed count more
+listed_ok (Ok x) count preds more a o e = o
+listed_ok (Err x) count preds more a o e = subst (λ ls. AreListed count ls) (sym e) a

@@ -1,6 +1,6 @@
 -- The nodes that each block lists.
 use Rattle.std.proofs.Common.{◌≡◌, ◌≢◌, ◌==◌, ℕ, zero, suc, ◌+◌, ◌<◌, ◌≤◌, Bool, true, false, ◌&&◌, List, [], ◌∷◌, ◌++◌, length, map, get_or, set, refl, sym, ap, ap₂, ◌∙◌, arith, subst, if◌then◌else◌, cond, inl, inr, true≢false}
-use Rattle.std.proofs.lemmas.Bool.{cases_eq, eq-eqb, ne_eqb}
+use Rattle.std.proofs.lemmas.Bool.{cases_eq, cases_lt, eq-eqb, ne_eqb}
 use Rattle.std.proofs.lemmas.List.{get_or-set_same, get_or-set_other, get_or_append_left, get_or_at, length-set}
 use Rattle.std.specs.List.{remove}
 use Rattle.cp_obstack.specs.Lists.{list_of}
@@ -43,20 +43,22 @@ there_within (r ∷ rows) (suc n) e = omega (arith, there_within rows n e)
 
 -- what is read of a node tells of its row
 pub there_row : (os cs : List (List ℕ)) (rows : List Stored) (n : ℕ) → (node_of (nodes_from 0 os cs rows) n).there ≡ (get_or rows n no_row).there
-there_row os cs rows n = elim (within n (length rows)) [
+there_row os cs rows n = elim (cases_lt n (length rows)) [
   | inl lt ↦ ap (λ (node : FirmNode). node.there) (nodes_at os cs rows n lt)
   | inr le ↦ ap (λ (node : FirmNode). node.there) (past_nodes os cs rows n le) ∙ sym (ap (λ (r : Stored). r.there) (past_rows rows n le))
-] where
-  within : (a b : ℕ) → (a < b) ⊎ (b ≤ a)
-  within a b = omega arith
+]
 
 pub stands_row : (os cs : List (List ℕ)) (rows : List Stored) (n b : ℕ) → stands_in (node_of (nodes_from 0 os cs rows) n) b ≡ is_in (get_or rows n no_row) b
-stands_row os cs rows n b = elim (within n (length rows)) [
+stands_row os cs rows n b = elim (cases_lt n (length rows)) [
   | inl lt ↦ ap (λ (node : FirmNode). stands_in node b) (nodes_at os cs rows n lt)
   | inr le ↦ ap (λ (node : FirmNode). stands_in node b) (past_nodes os cs rows n le) ∙ sym (ap (λ (r : Stored). is_in r b) (past_rows rows n le))
-] where
-  within : (a b : ℕ) → (a < b) ⊎ (b ≤ a)
-  within a b = omega arith
+]
+
+read_old : (rows : List Stored) (row : Stored) (n : ℕ) → n ≢ length rows → get_or (rows ++ row ∷ []) n no_row ≡ get_or rows n no_row
+read_old [] row zero ne = absurd (ne refl)
+read_old [] row (suc n) ne = refl
+read_old (r ∷ rows) row zero ne = refl
+read_old (r ∷ rows) row (suc n) ne = read_old rows row n (λ e. ne (ap suc e))
 
 -- ---- a node that comes
 
@@ -74,20 +76,13 @@ member_made rows members after row a there own others b n = elim (cases_eq n (le
         | inr ne ↦ ap (times n) (others b ne) ∙ a b n ∙ was ∙ sym (in_other row b (λ e. ne (sym e))) ∙ sym (ap (λ r. count r b) read)
       ]
   | inr old ↦
-      let read : count (get_or (rows ++ row ∷ []) n no_row) b ≡ count (get_or rows n no_row) b = ap (λ r. count r b) (read_old n old) in
+      let read : count (get_or (rows ++ row ∷ []) n no_row) b ≡ count (get_or rows n no_row) b = ap (λ r. count r b) (read_old rows row n old) in
       elim (cases_eq b row.block) [
         | inl here ↦ ap (λ c. times n (list_of after c)) here ∙ ap (times n) own ∙ times_push n (list_of members row.block) (length rows)
             ∙ omega (arith, ap (λ c. times n (list_of members c)) here, one_other n (length rows) (λ e. old (sym e))) ∙ a b n ∙ sym read
         | inr ne ↦ ap (times n) (others b ne) ∙ a b n ∙ sym read
       ]
-] where
-  read_old : (n : ℕ) → n ≢ length rows → get_or (rows ++ row ∷ []) n no_row ≡ get_or rows n no_row
-  read_old n ne = from rows n ne where
-    from : (rows : List Stored) (n : ℕ) → n ≢ length rows → get_or (rows ++ row ∷ []) n no_row ≡ get_or rows n no_row
-    from [] zero ne = absurd (ne refl)
-    from [] (suc n) ne = refl
-    from (r ∷ rows) zero ne = refl
-    from (r ∷ rows) (suc n) ne = from rows n (λ e. ne (ap suc e))
+]
 
 -- ---- a node that goes
 
@@ -137,7 +132,8 @@ member_gone rows members after n row was a w there r own others b x =
 -- ---- lists of nodes, by their numbers
 
 pub numbers_removed : (list : List NodeId) (i : ℕ) → numbers (remove list i) ≡ remove (numbers list) i
-numbers_removed [] i = refl
+numbers_removed [] zero = refl
+numbers_removed [] (suc i) = refl
 numbers_removed (x ∷ list) zero = refl
 numbers_removed (x ∷ list) (suc i) = ap (λ l. x.number ∷ l) (numbers_removed list i)
 
@@ -149,3 +145,28 @@ number_at (x ∷ list) (suc i) d h = number_at list i d (omega arith)
 pub numbers_long : (list : List NodeId) → length (numbers list) ≡ length list
 numbers_long [] = refl
 numbers_long (x ∷ list) = ap suc (numbers_long list)
+
+-- ---- the list of a block
+
+pub list_at : {V : Type 0} (f : V → List ℕ) (lists : List V) (b : ℕ) (d : V) → b < length lists → list_of (map f lists) b ≡ f (get_or lists b d)
+list_at f [] b d h = absurd (omega arith)
+list_at f (v ∷ lists) zero d h = refl
+list_at f (v ∷ lists) (suc b) d h = list_at f lists b d (omega arith)
+
+pub list_added : {V : Type 0} (f : V → List ℕ) (lists : List V) (v : V) (b : ℕ) → f v ≡ [] → list_of (map f (lists ++ v ∷ [])) b ≡ list_of (map f lists) b
+list_added f [] v zero e = e
+list_added f [] v (suc b) e = refl
+list_added f (x ∷ lists) v zero e = refl
+list_added f (x ∷ lists) v (suc b) e = list_added f lists v b e
+
+pub list_changed : {V : Type 0} (f : V → List ℕ) (lists : List V) (b : ℕ) (v : V) → b < length lists → list_of (map f (set lists b v)) b ≡ f v
+list_changed f [] b v h = absurd (omega arith)
+list_changed f (x ∷ lists) zero v h = refl
+list_changed f (x ∷ lists) (suc b) v h = list_changed f lists b v (omega arith)
+
+pub list_kept : {V : Type 0} (f : V → List ℕ) (lists : List V) (b other : ℕ) (v : V) → other ≢ b → list_of (map f (set lists b v)) other ≡ list_of (map f lists) other
+list_kept f [] b other v ne = refl
+list_kept f (x ∷ lists) zero zero v ne = absurd (ne refl)
+list_kept f (x ∷ lists) zero (suc other) v ne = refl
+list_kept f (x ∷ lists) (suc b) zero v ne = refl
+list_kept f (x ∷ lists) (suc b) (suc other) v ne = list_kept f lists b other v (λ e. ne (ap suc e))

@@ -1,9 +1,11 @@
 -- What a change of the tables does to the nodes that are seen in them.
-use Rattle.std.proofs.Common.{◌≡◌, ◌≢◌, ℕ, zero, suc, ◌+◌, ◌<◌, ◌≤◌, true, false, List, [], ◌∷◌, ◌++◌, length, map, get_or, set, refl, sym, ap, ap₂, ◌∙◌, arith, subst}
-use Rattle.std.proofs.lemmas.List.{length-set, length-map, set-set, set-get_or, get_or-set_same, get_or-set_other}
+use Rattle.std.proofs.Common.{◌≡◌, ◌≢◌, ℕ, zero, suc, ◌+◌, ◌<◌, ◌≤◌, Bool, true, false, List, [], ◌∷◌, ◌++◌, length, map, take, get_or, set, refl, sym, ap, ap₂, ◌∙◌, arith, subst, inl, inr, true≢false, Result, Ok, Err, OnOk, OnErr}
+use Rattle.std.proofs.lemmas.List.{length-set, length-map, set-set, set-get_or, get_or-set_same, get_or-set_other, get_or_default, take_more}
+use Rattle.std.proofs.lemmas.Bool.{cases_lt}
 use Rattle.cp_obstack.specs.Lists.{list_of}
 use Rattle.firm_uses.specs.Tables.{with_list}
 use Rattle.firm_uses.specs.Counts.{renamed, renamed_rows, Used}
+use Rattle.firm_rules.specs.declared.node.NodeOp.{NodeOp}
 use Rattle.firm_rules.specs.Graphs.{FirmNode}
 use Rattle.firm_tables.specs.declared.nodes.Stored.{Stored}
 use Rattle.firm_tables.specs.Nodes.{no_node, node_of, made, with_operands, gone, without, renamed_node}
@@ -26,12 +28,13 @@ pub nodes_at : (os cs : List (List ℕ)) (rows : List Stored) (k : ℕ) → k < 
 nodes_at os cs rows k h = at_more 0 os cs rows k k (omega arith) h
 
 -- past the nodes there is no operand
+past : (nodes : List FirmNode) (k : ℕ) → length nodes ≤ k → node_of nodes k ≡ no_node
+past [] k h = refl
+past (x ∷ nodes) zero h = absurd (omega arith)
+past (x ∷ nodes) (suc k) h = past nodes k (omega arith)
+
 pub past_nodes : (os cs : List (List ℕ)) (rows : List Stored) (k : ℕ) → length rows ≤ k → node_of (nodes_from 0 os cs rows) k ≡ no_node
-past_nodes os cs rows k h = past (nodes_from 0 os cs rows) k (omega (arith, h, nodes_long 0 os cs rows)) where
-  past : (nodes : List FirmNode) (k : ℕ) → length nodes ≤ k → node_of nodes k ≡ no_node
-  past [] k h = refl
-  past (x ∷ nodes) zero h = absurd (omega arith)
-  past (x ∷ nodes) (suc k) h = past nodes k (omega arith)
+past_nodes os cs rows k h = past (nodes_from 0 os cs rows) k (omega (arith, h, nodes_long 0 os cs rows))
 
 -- the same lists, the same nodes
 pub same_seen : (os cs more others : List (List ℕ)) (n : ℕ) (row : Stored) → list_of more n ≡ list_of os n → list_of others n ≡ list_of cs n
@@ -58,21 +61,21 @@ pushed_from n m os cs more others (r ∷ rows) row e o c =
     ap₂ (λ a b. a ∷ b) (same_seen os cs more others n r (o n (omega (arith, e))) (c n (omega (arith, e))))
     (pushed_from (suc n) m os cs more others rows row (omega (arith, e)) o c)
 
+made_of : (n block : ℕ) (op : NodeOp) (is : Bool) (list uses current : List ℕ) → is ≡ true → uses ≡ list → current ≡ n ∷ []
+    → record { op = op; block = block; operands = uses; there = is; current = get_or current 0 0 } ≡ made n op block list
+made_of n block op is list uses current a b d =
+    ap₂ (λ (i : Bool) (u : List ℕ). record { op = op; block = block; operands = u; there = i; current = get_or current 0 0 }) a b
+    ∙ ap (λ (u : List ℕ). record { op = op; block = block; operands = list; there = true; current = get_or u 0 0 }) d
+
 pub node_made : (os cs more others : List (List ℕ)) (rows : List Stored) (row : Stored) (operands : List ℕ) → row.there ≡ true
     → list_of more (length rows) ≡ operands → list_of others (length rows) ≡ length rows ∷ []
     → ((k : ℕ) → k ≢ length rows → list_of more k ≡ list_of os k) → ((k : ℕ) → k ≢ length rows → list_of others k ≡ list_of cs k)
     → nodes_from 0 more others (rows ++ row ∷ []) ≡ nodes_from 0 os cs rows ++ made (length (nodes_from 0 os cs rows)) row.op row.block operands ∷ []
 node_made os cs more others rows row operands there now own o c =
     pushed_from 0 (length rows) os cs more others rows row (omega arith) o c
-    ∙ ap (λ node. nodes_from 0 os cs rows ++ node ∷ [])
-    (made_of (length rows) row.there (list_of more (length rows)) (list_of others (length rows)) there now own
+    ∙ ap (λ (node : FirmNode). nodes_from 0 os cs rows ++ node ∷ [])
+    (made_of (length rows) row.block row.op row.there operands (list_of more (length rows)) (list_of others (length rows)) there now own
         ∙ ap (λ n. made n row.op row.block operands) (sym (nodes_long 0 os cs rows)))
-where
-  made_of : (n : ℕ) (is : _) (uses current : List ℕ) → is ≡ true → uses ≡ operands → current ≡ n ∷ []
-      → record { op = row.op; block = row.block; operands = uses; there = is; current = get_or current 0 0 } ≡ made n row.op row.block operands
-  made_of n is uses current a b d =
-      ap₂ (λ i u. record { op = row.op; block = row.block; operands = u; there = i; current = get_or current 0 0 }) a b
-      ∙ ap (λ u. record { op = row.op; block = row.block; operands = operands; there = true; current = get_or u 0 0 }) d
 
 -- ---- one node changes
 
@@ -169,3 +172,76 @@ held_renamed count old to operands currents more others a o ol c cl = record {
   empty = λ n le. ap (λ ls. list_of ls n) o ∙ renamed_list old to operands.uses n ∙ renamed_none old to (list_of operands.uses n) (a.empty n le);
   own = λ n lt. ap (λ ls. length (list_of ls n)) c ∙ ap length (renamed_list old to currents.uses n) ∙ length-map (list_of currents.uses n) (renamed old to) ∙ a.own n lt;
 }
+
+-- ---- what is read
+
+pub node_there : (os cs : List (List ℕ)) (rows : List Stored) (nodes : List FirmNode) (k : ℕ) → nodes_from 0 os cs rows ≡ nodes → k < length nodes → k < length rows
+node_there os cs rows nodes k v h = omega (arith, h, ap length v, nodes_long 0 os cs rows)
+
+pub row_is : (rows : List Stored) (k : ℕ) (row : Stored) → k < length rows → row ≡ get_or rows k row → row ≡ get_or rows k no_row
+row_is rows k row h e = e ∙ get_or_default rows k row no_row h
+
+pub seen_node : (os cs : List (List ℕ)) (rows : List Stored) (nodes : List FirmNode) (k : ℕ) (row : Stored) → nodes_from 0 os cs rows ≡ nodes → k < length nodes
+    → row ≡ get_or rows k row → node_seen os cs k row ≡ node_of nodes k
+seen_node os cs rows nodes k row v h e =
+    let there = node_there os cs rows nodes k v h in
+    ap (λ (r : Stored). node_seen os cs k r) (row_is rows k row there e) ∙ sym (nodes_at os cs rows k there) ∙ ap (λ ns. node_of ns k) v
+
+pub seen_operands : (os cs : List (List ℕ)) (rows : List Stored) (nodes : List FirmNode) (k : ℕ) → nodes_from 0 os cs rows ≡ nodes
+    → ((n : ℕ) → length rows ≤ n → list_of os n ≡ []) → list_of os k ≡ (node_of nodes k).operands
+seen_operands os cs rows nodes k v none = elim (cases_lt k (length rows)) [
+  | inl lt ↦ sym (ap (λ (node : FirmNode). node.operands) (nodes_at os cs rows k lt)) ∙ ap (λ ns. (node_of ns k).operands) v
+  | inr le ↦ none k le ∙ sym (ap (λ (node : FirmNode). node.operands) (past_nodes os cs rows k le)) ∙ ap (λ ns. (node_of ns k).operands) v
+]
+
+pub seen_current : (os cs : List (List ℕ)) (rows : List Stored) (nodes : List FirmNode) (k : ℕ) → nodes_from 0 os cs rows ≡ nodes → k < length nodes
+    → get_or (list_of cs k) 0 0 ≡ (node_of nodes k).current
+seen_current os cs rows nodes k v h = sym (ap (λ (node : FirmNode). node.current) (nodes_at os cs rows k (node_there os cs rows nodes k v h))) ∙ ap (λ ns. (node_of ns k).current) v
+
+-- ---- changes that may be refused
+
+pub held_ok : {T E : Type 0} (r : Result T E) (count k : ℕ) (list : List ℕ) (operands currents after : Used) → AreHeld count operands currents → k < count
+    → OnOk r (after.uses ≡ with_list operands.uses k list) → OnErr r (after.uses ≡ operands.uses) → length after.loads ≡ length operands.loads
+    → AreHeld count after currents
+held_ok (Ok x) count k list operands currents after a h o e l = held_set count k list operands currents after a h o l
+held_ok (Err x) count k list operands currents after a h o e l =
+    held_set count k (list_of operands.uses k) operands currents after a h (e ∙ sym (set-get_or operands.uses k [])) l
+
+-- the operands of one node, as they are seen
+pub operands_change : (os cs more : List (List ℕ)) (rows : List Stored) (nodes : List FirmNode) (k : ℕ) (f : List ℕ → List ℕ) → nodes_from 0 os cs rows ≡ nodes → k < length nodes
+    → k < length os → ((n : ℕ) → length rows ≤ n → list_of os n ≡ []) → more ≡ with_list os k (f (list_of os k))
+    → nodes_from 0 more cs rows ≡ with_operands nodes k (f (node_of nodes k).operands)
+operands_change os cs more rows nodes k f v h there none e =
+    operands_are os cs more rows k (f (list_of os k)) (node_there os cs rows nodes k v h) there e
+    ∙ ap₂ (λ (ns : List FirmNode) (l : List ℕ). with_operands ns k (f l)) v (seen_operands os cs rows nodes k v none)
+
+pub renamed_seen : (old to : ℕ) (os cs more others : List (List ℕ)) (rows : List Stored) (nodes : List FirmNode) → nodes_from 0 os cs rows ≡ nodes
+    → ((k : ℕ) → k < length rows → length (list_of cs k) ≡ 1) → more ≡ renamed_rows old to os → others ≡ renamed_rows old to cs
+    → nodes_from 0 more others rows ≡ map (renamed_node old to) nodes
+renamed_seen old to os cs more others rows nodes v own m o =
+    ap₂ (λ a b. nodes_from 0 a b rows) m o ∙ nodes_renamed 0 old to os cs rows (λ k lo hi. own k (omega (arith, hi)))
+    ∙ ap (map (renamed_node old to)) v
+
+-- what is renamed is there as before
+pub renamed_there : (old to : ℕ) (nodes : List FirmNode) (n : ℕ) → (node_of (map (renamed_node old to) nodes) n).there ≡ (node_of nodes n).there
+renamed_there old to [] n = refl
+renamed_there old to (x ∷ nodes) zero = refl
+renamed_there old to (x ∷ nodes) (suc n) = renamed_there old to nodes n
+
+pub node_within : (nodes : List FirmNode) (n : ℕ) → (node_of nodes n).there ≡ true → n < length nodes
+node_within [] n e = absurd (true≢false (sym e))
+node_within (x ∷ nodes) zero e = omega arith
+node_within (x ∷ nodes) (suc n) e = omega (arith, node_within nodes n e)
+
+-- ---- uses that come
+
+pub covers_push : (count k : ℕ) (list : List ℕ) (used after : Used) → Covers count used → after.uses ≡ with_list used.uses k list
+    → length after.loads ≡ length used.loads → Covers count after
+covers_push count k list used after c e l = covers_set count k list used after c e l
+
+pub front_pushed : (rows more : List (List ℕ)) (user at number : ℕ) (all : List ℕ) → user < length rows → at < length all
+    → list_of rows user ≡ take at all → number ≡ get_or all at 0 → more ≡ with_list rows user (list_of rows user ++ number ∷ [])
+    → list_of more user ≡ take (at + 1) all
+front_pushed rows more user at number all there h e n m =
+    ap (λ ls. list_of ls user) m ∙ get_or-set_same rows user (list_of rows user ++ number ∷ []) [] there
+    ∙ ap₂ (λ (l : List ℕ) (x : ℕ). l ++ x ∷ []) e n ∙ sym (take_more at all h)

@@ -1,5 +1,5 @@
 // The nodes by their numbers, with who uses them.
-ghost use Rattle.std.specs.Prelude.{◌≡◌, ◌≢◌, ◌<◌, [], ◌∷◌, ◌++◌, ℕ, true, ⊥, MatchBool, length, map, if◌then◌else◌, slice_index, OnOk, OnErr, IfOk};
+ghost use Rattle.std.specs.Prelude.{◌≡◌, ◌≢◌, ◌<◌, [], ◌∷◌, ◌++◌, ℕ, true, MatchBool, length, map, if◌then◌else◌, slice_index, OnOk, OnErr, IfOk};
 ghost use Rattle.std.specs.List.{remove};
 ghost use Rattle.firm_uses.specs.Counts.{times};
 ghost use Rattle.firm_tables.specs.Nodes.{numbers, stands_in, IsLike, node_of, made, with_operands, without, renamed_node, replaced};
