@@ -1,7 +1,7 @@
 -- The nodes that each block lists.
 use Rattle.std.proofs.Common.{◌≡◌, ◌≢◌, ◌==◌, ℕ, zero, suc, ◌+◌, ◌<◌, ◌≤◌, Bool, true, false, ◌&&◌, List, [], ◌∷◌, ◌++◌, length, map, get_or, set, refl, sym, ap, ap₂, ◌∙◌, arith, subst, if◌then◌else◌, cond, inl, inr, true≢false}
 use Rattle.std.proofs.lemmas.Bool.{cases_eq, cases_lt, eq-eqb, ne_eqb}
-use Rattle.std.proofs.lemmas.List.{get_or-set_same, get_or-set_other, get_or_append_left, get_or_at, length-set}
+use Rattle.std.proofs.lemmas.List.{get_or-set_same, get_or-set_other, get_or_append_left, get_or_at, length-set, length-map}
 use Rattle.std.specs.List.{remove}
 use Rattle.cp_obstack.specs.Lists.{list_of}
 use Rattle.firm_uses.specs.Counts.{times}
@@ -170,3 +170,45 @@ list_kept f (x ∷ lists) zero zero v ne = absurd (ne refl)
 list_kept f (x ∷ lists) zero (suc other) v ne = refl
 list_kept f (x ∷ lists) (suc b) zero v ne = refl
 list_kept f (x ∷ lists) (suc b) (suc other) v ne = list_kept f lists b other v (λ e. ne (ap suc e))
+
+pub list_written : {V : Type 0} (f : V → List ℕ) (lists : List V) (b : ℕ) (v : V) (rows : List (List ℕ)) → map f lists ≡ rows → b < length rows
+    → list_of (map f (set lists b v)) b ≡ f v
+list_written f lists b v rows e h = list_changed f lists b v (omega (arith, h, ap length e, length-map lists f))
+
+pub list_read : {V : Type 0} (f : V → List ℕ) (lists : List V) (b : ℕ) (was : V) (rows : List (List ℕ)) → map f lists ≡ rows → b < length rows → was ≡ get_or lists b was
+    → f was ≡ list_of rows b
+list_read f lists b was rows e h w = ap f w ∙ sym (list_at f lists b was (omega (arith, h, ap length e, length-map lists f))) ∙ ap (λ rs. list_of rs b) e
+
+pub numbers_pushed : (list : List NodeId) (x : NodeId) → numbers (list ++ x ∷ []) ≡ numbers list ++ x.number ∷ []
+numbers_pushed [] x = refl
+numbers_pushed (y ∷ list) x = ap (λ l. y.number ∷ l) (numbers_pushed list x)
+
+pub removed_one : (list new : List NodeId) (place node x : ℕ) → place < length list → get_or (numbers list) place 0 ≡ node → new ≡ remove list place
+    → times x (numbers new) + (one x node + 0) ≡ times x (numbers list)
+removed_one list new place node x h n e =
+    omega (
+      arith,
+      times-remove x (numbers list) place 0 (omega (arith, h, numbers_long list)),
+      ap (one x) n,
+      ap (times x) (ap numbers e ∙ numbers_removed list place),
+    )
+
+pub members_back : (members pushed back : List (List ℕ)) (block number : ℕ) → list_of pushed block ≡ list_of members block ++ number ∷ []
+    → ((b : ℕ) → b ≢ block → list_of pushed b ≡ list_of members b)
+    → ((x : ℕ) → times x (list_of back block) + (one x number + 0) ≡ times x (list_of pushed block)) → ((b : ℕ) → b ≢ block → list_of back b ≡ list_of pushed b)
+    → (b n : ℕ) → times n (list_of back b) ≡ times n (list_of members b)
+members_back members pushed back block number p po r ro b n = elim (cases_eq b block) [
+  | inl here ↦ omega (
+    arith,
+    r n,
+    ap (times n) p,
+    times_push n (list_of members block) number,
+    ap (λ c. times n (list_of back c)) here,
+    ap (λ c. times n (list_of members c)) here,
+  )
+  | inr ne ↦ ap (times n) (ro b ne ∙ po b ne)
+]
+
+pub is_member : (members pushed : List (List ℕ)) (block number : ℕ) → list_of pushed block ≡ list_of members block ++ number ∷ [] → 0 < times number (list_of pushed block)
+is_member members pushed block number p =
+    omega (arith, ap (times number) p, times_push number (list_of members block) number, one_same number)

@@ -1,7 +1,7 @@
 -- What a change of the tables does to the nodes that are seen in them.
-use Rattle.std.proofs.Common.{◌≡◌, ◌≢◌, ℕ, zero, suc, ◌+◌, ◌<◌, ◌≤◌, Bool, true, false, List, [], ◌∷◌, ◌++◌, length, map, take, get_or, set, refl, sym, ap, ap₂, ◌∙◌, arith, subst, inl, inr, true≢false, Result, Ok, Err, OnOk, OnErr}
+use Rattle.std.proofs.Common.{◌≡◌, ◌≢◌, ℕ, zero, suc, ◌+◌, ◌<◌, ◌≤◌, Bool, true, false, List, [], ◌∷◌, ◌++◌, length, map, take, get_or, set, refl, sym, ap, ap₂, ◌∙◌, arith, subst, inl, inr, true≢false, Result, Ok, Err, is_err, OnOk, OnErr}
 use Rattle.std.proofs.lemmas.List.{length-set, length-map, set-set, set-get_or, get_or-set_same, get_or-set_other, get_or_default, take_more}
-use Rattle.std.proofs.lemmas.Bool.{cases_lt}
+use Rattle.std.proofs.lemmas.Bool.{cases_eq, cases_lt}
 use Rattle.cp_obstack.specs.Lists.{list_of}
 use Rattle.firm_uses.specs.Tables.{with_list}
 use Rattle.firm_uses.specs.Counts.{renamed, renamed_rows, Used}
@@ -244,4 +244,68 @@ pub front_pushed : (rows more : List (List ℕ)) (user at number : ℕ) (all : L
     → list_of more user ≡ take (at + 1) all
 front_pushed rows more user at number all there h e n m =
     ap (λ ls. list_of ls user) m ∙ get_or-set_same rows user (list_of rows user ++ number ∷ []) [] there
-    ∙ ap₂ (λ (l : List ℕ) (x : ℕ). l ++ x ∷ []) e n ∙ sym (take_more at all h)
+    ∙ ap₂ (λ (l : List ℕ) (x : ℕ). l ++ x ∷ []) e n ∙ sym (take_more all at 0 h)
+
+-- ---- a node that comes, or does not
+
+-- what changes behind the nodes is not seen
+pub unseen : (os cs more others : List (List ℕ)) (rows all : List Stored) (nodes : List FirmNode) (number : ℕ) → nodes_from 0 os cs rows ≡ nodes → number ≡ length rows → all ≡ rows
+    → ((k : ℕ) → k ≢ number → list_of more k ≡ list_of os k) → ((k : ℕ) → k ≢ number → list_of others k ≡ list_of cs k)
+    → nodes_from 0 more others all ≡ nodes
+unseen os cs more others rows all nodes number v n r o c =
+    ap (nodes_from 0 more others) r ∙ nodes_same 0 os cs more others rows (λ k lo hi. o k (omega (arith, n, hi))) (λ k lo hi. c k (omega (arith, n, hi))) ∙ v
+
+pub held_kept : (count all number : ℕ) (operands currents more others : Used) → AreHeld count operands currents → number ≡ count → all ≡ count
+    → Covers number more → Covers number others → list_of more.uses number ≡ []
+    → ((k : ℕ) → k ≢ number → list_of more.uses k ≡ list_of operands.uses k) → ((k : ℕ) → k ≢ number → list_of others.uses k ≡ list_of currents.uses k)
+    → AreHeld all more others
+held_kept count all number operands currents more others a n r m c none o p = record {
+  operands_cover = record { users = omega (arith, m.users, n, r); used_ones = omega (arith, m.used_ones, n, r) };
+  currents_cover = record { users = omega (arith, c.users, n, r); used_ones = omega (arith, c.used_ones, n, r) };
+  empty = λ k le. elim (cases_eq k number) [
+    | inl same ↦ ap (list_of more.uses) same ∙ none
+    | inr ne ↦ o k ne ∙ a.empty k (omega (arith, le, r))
+  ];
+  own = λ k lt. ap length (p k (omega (arith, lt, n, r))) ∙ a.own k (omega (arith, lt, r));
+}
+
+pub held_made : (count all number : ℕ) (operands currents more others : Used) → AreHeld count operands currents → number ≡ count → all ≡ suc count
+    → Covers (suc number) more → Covers (suc number) others → list_of others.uses number ≡ number ∷ []
+    → ((k : ℕ) → k ≢ number → list_of more.uses k ≡ list_of operands.uses k) → ((k : ℕ) → k ≢ number → list_of others.uses k ≡ list_of currents.uses k)
+    → AreHeld all more others
+held_made count all number operands currents more others a n r m c own o p = record {
+  operands_cover = record { users = omega (arith, m.users, n, r); used_ones = omega (arith, m.used_ones, n, r) };
+  currents_cover = record { users = omega (arith, c.users, n, r); used_ones = omega (arith, c.used_ones, n, r) };
+  empty = λ k le. o k (omega (arith, le, n, r)) ∙ a.empty k (omega (arith, le, r));
+  own = λ k lt. elim (cases_eq k number) [
+    | inl same ↦ ap (λ i. length (list_of others.uses i)) same ∙ ap length own
+    | inr ne ↦ ap length (p k ne) ∙ a.own k (omega (arith, lt, n, r, ne))
+  ];
+}
+
+pub made_seen : (os cs more others : List (List ℕ)) (rows all : List Stored) (nodes : List FirmNode) (row : Stored) (operands : List ℕ) (number : ℕ) → nodes_from 0 os cs rows ≡ nodes
+    → number ≡ length rows → all ≡ rows ++ row ∷ [] → row.there ≡ true → list_of more number ≡ operands → list_of others number ≡ number ∷ []
+    → ((k : ℕ) → k ≢ number → list_of more k ≡ list_of os k) → ((k : ℕ) → k ≢ number → list_of others k ≡ list_of cs k)
+    → nodes_from 0 more others all ≡ nodes ++ made (length nodes) row.op row.block operands ∷ []
+made_seen os cs more others rows all nodes row operands number v n r there now own o c =
+    ap (nodes_from 0 more others) r
+    ∙ node_made os cs more others rows row operands there (ap (list_of more) (sym n) ∙ now) (ap (list_of others) (sym n) ∙ own ∙ ap (λ i. i ∷ []) n)
+    (λ k ne. o k (λ e. ne (e ∙ n))) (λ k ne. c k (λ e. ne (e ∙ n)))
+    ∙ ap (λ ns. ns ++ made (length ns) row.op row.block operands ∷ []) v
+
+pub from_ok : {T E P : Type 0} (r : Result T E) → is_err r ≡ false → OnOk r P → P
+from_ok (Ok x) e p = p
+from_ok (Err x) e p = absurd (true≢false e)
+
+pub from_err : {T E P : Type 0} (r : Result T E) → is_err r ≡ true → OnErr r P → P
+from_err (Ok x) e p = absurd (true≢false (sym e))
+from_err (Err x) e p = p
+
+-- ---- a node that goes
+
+pub gone_seen : (os cs more : List (List ℕ)) (rows : List Stored) (nodes : List FirmNode) (k : ℕ) (was row : Stored) → nodes_from 0 os cs rows ≡ nodes → k < length nodes
+    → k < length os → more ≡ with_list os k [] → was ≡ get_or rows k was → row ≡ record was { there = false }
+    → nodes_from 0 more cs (set rows k row) ≡ without nodes k
+gone_seen os cs more rows nodes k was row v h there e w r =
+    let lt = node_there os cs rows nodes k v h in
+    node_gone os cs more rows k row was lt there e (row_is rows k was lt w) r ∙ ap (λ ns. without ns k) v
