@@ -1,5 +1,5 @@
 -- What a change of the tables does to the blocks that are seen in them.
-use Rattle.std.proofs.Common.{◌≡◌, ◌≢◌, ◌==◌, ℕ, zero, suc, ◌+◌, ◌<◌, ◌≤◌, Bool, true, false, List, [], ◌∷◌, ◌++◌, length, take, drop, map, get_or, set, refl, sym, ap, ap₂, ◌∙◌, arith, subst, Option, Some, None, inl, inr, Result, Ok, Err, IsOk, is_ok, OnOk, OnErr, if◌then◌else◌}
+use Rattle.std.proofs.Common.{◌≡◌, ◌≢◌, ◌==◌, ℕ, zero, suc, ◌+◌, ◌<◌, ◌≤◌, Bool, true, false, List, [], ◌∷◌, ◌++◌, length, take, drop, map, get_or, set, refl, sym, ap, ap₂, ◌∙◌, arith, subst, Option, Some, None, option_map, inl, inr, Result, Ok, Err, IsOk, is_ok, OnOk, OnErr, if◌then◌else◌}
 use Rattle.std.proofs.lemmas.List.{length-set, length-map, set-set, set-get_or, get_or-set_same, get_or-set_other, get_or_default, take_at, take_all, drop_all, append-nil}
 use Rattle.std.proofs.Math.Numerals.{suc-eq-add-one}
 use Rattle.cp_obstack.specs.Lists.{list_of}
@@ -9,6 +9,7 @@ use Rattle.firm_rules.specs.declared.node.BlockId.{BlockId}
 use Rattle.firm_rules.specs.declared.node.FirmEnd.{FirmEnd}
 use Rattle.firm_rules.specs.declared.node.FirmEnd.TheVariants.{Jump, Branch}
 use Rattle.firm_rules.specs.Lookups.{targets}
+use Rattle.firm_rules.specs.Replacing.{renamed_end}
 use Rattle.firm_rules.specs.Graphs.{FirmBlock}
 use Rattle.firm_tables.specs.declared.blocks.StoredBlock.{StoredBlock}
 use Rattle.firm_tables.specs.Blocks.{new_block, block_of, with_preds, with_end, sealed_at, linked, renamed_block}
@@ -159,11 +160,13 @@ first_turn old to [] at d h = absurd (omega arith)
 first_turn old to (r ∷ rows) zero d h = refl
 first_turn old to (r ∷ rows) (suc at) d h = ap (λ m. renamed_row old to r ∷ m) (first_turn old to rows at d (omega arith))
 
-pub row_turn : (old to : ℕ) (rows now : List StoredBlock) (at : ℕ) (row was : StoredBlock) → at < length rows → now ≡ renamed_first old to rows at
-    → was ≡ get_or now at was → row ≡ renamed_row old to was → set now at row ≡ renamed_first old to rows (at + 1)
-row_turn old to rows now at row was h n w r =
-    let is : was ≡ get_or rows at was = w ∙ ap (λ l. get_or l at was) n ∙ first_read old to rows at was in
-    ap₂ (λ (l : List StoredBlock) (x : StoredBlock). set l at x) n (r ∙ ap (λ (x : StoredBlock). renamed_row old to x) is) ∙ first_turn old to rows at was h
+pub row_turn : (old to : ℕ) (rows now : List StoredBlock) (at : ℕ) (end : Option FirmEnd) → at < length rows → now ≡ renamed_first old to rows at
+    → end ≡ option_map (renamed_end old to) (get_or now at no_block).end
+    → set now at (record { end = end; sealed = (get_or now at no_block).sealed }) ≡ renamed_first old to rows (at + 1)
+row_turn old to rows now at end h n e =
+    let is : get_or now at no_block ≡ get_or rows at no_block = ap (λ l. get_or l at no_block) n ∙ first_read old to rows at no_block in
+    ap (λ x. set now at (record { end = x; sealed = (get_or now at no_block).sealed })) e
+    ∙ ap₂ (λ (l : List StoredBlock) (x : StoredBlock). set l at (renamed_row old to x)) n is ∙ first_turn old to rows at no_block h
     ∙ ap (renamed_first old to rows) (suc-eq-add-one at)
 
 pub row_end : (old to : ℕ) (rows now : List StoredBlock) (at : ℕ) → now ≡ renamed_first old to rows at → length rows ≤ at → now ≡ map (renamed_row old to) rows

@@ -1,5 +1,5 @@
 -- Two operations of nodes are the same exactly where `==` finds them so.
-use Rattle.std.proofs.Common.{◌≡◌, ℕ, Bool, true, false, ◌==◌, refl, sym, ap, true≢false}
+use Rattle.std.proofs.Common.{◌≡◌, ℕ, Bool, true, false, ◌==◌, refl, sym, ap, ◌∙◌, true≢false, MatchBool}
 use Rattle.std.proofs.lemmas.Bool.Decides.{Decides-eqb}
 use Rattle.cp_base.specs.declared.op.Kind.{Kind}
 use Rattle.cp_base.specs.declared.op.Kind.TheVariants as k
@@ -19,6 +19,8 @@ use Rattle.cp_base.specs.contracts.op.KindPartialEq.TheImpl.{eq-value as kind-va
 use Rattle.cp_base.specs.contracts.op.RelationPartialEq.TheImpl.{eq-value as relation-value}
 use Rattle.cp_base.specs.contracts.op.ToPartialEq.TheImpl.{eq-value as to-value}
 use Rattle.cp_base.specs.contracts.op.OpPartialEq.TheImpl.{eq-value as op-value}
+use Rattle.firm_tables.specs.declared.nodes.Stored.{Stored}
+use Rattle.firm_tables.specs.Held.{IsRow}
 
 -- the answer of `==`
 abbrev pub equal : NodeOp → NodeOp → Bool
@@ -146,3 +148,10 @@ own_op (n.Store x) = own_kind x
 own_op (n.Call x) = own_number x
 own_op (n.Phi x) = own_mode x
 own_op a = refl
+
+-- ---- the test of a row
+
+pub row_matches : (row : Stored) (op : NodeOp) (b : ℕ) (answer : Bool) → row.there ≡ true → row.block ≡ b → answer ≡ equal row.op op
+    → MatchBool answer (IsRow row op b) (IsRow row op b → ⊥)
+row_matches row op b true there block e = record { there = there; op_is = same_op row.op op (sym e); block_is = block }
+row_matches row op b false there block e = λ r. true≢false (sym (own_op row.op) ∙ ap (equal row.op) r.op_is ∙ sym e)

@@ -1,5 +1,5 @@
 -- What a change of the tables does to the nodes that are seen in them.
-use Rattle.std.proofs.Common.{◌≡◌, ◌≢◌, ℕ, zero, suc, ◌+◌, ◌<◌, ◌≤◌, Bool, true, false, List, [], ◌∷◌, ◌++◌, length, map, take, get_or, set, refl, sym, ap, ap₂, ◌∙◌, arith, subst, inl, inr, true≢false, Result, Ok, Err, is_err, OnOk, OnErr}
+use Rattle.std.proofs.Common.{◌≡◌, ◌≢◌, ℕ, zero, suc, ◌+◌, ◌<◌, ◌≤◌, Bool, true, false, List, [], ◌∷◌, ◌++◌, length, map, take, get_or, set, refl, sym, ap, ap₂, ◌∙◌, arith, subst, inl, inr, true≢false, Result, Ok, Err, is_err, OnOk, OnErr, MatchBool}
 use Rattle.std.proofs.lemmas.List.{length-set, length-map, set-set, set-get_or, get_or-set_same, get_or-set_other, get_or_default, take_more}
 use Rattle.std.proofs.lemmas.Bool.{cases_eq, cases_lt}
 use Rattle.cp_obstack.specs.Lists.{list_of}
@@ -8,8 +8,8 @@ use Rattle.firm_uses.specs.Counts.{renamed, renamed_rows, Used}
 use Rattle.firm_rules.specs.declared.node.NodeOp.{NodeOp}
 use Rattle.firm_rules.specs.Graphs.{FirmNode}
 use Rattle.firm_tables.specs.declared.nodes.Stored.{Stored}
-use Rattle.firm_tables.specs.Nodes.{no_node, node_of, made, with_operands, gone, without, renamed_node}
-use Rattle.firm_tables.specs.Held.{node_seen, nodes_from, no_row, Covers, AreHeld}
+use Rattle.firm_tables.specs.Nodes.{no_node, node_of, IsLike, made, with_operands, gone, without, renamed_node}
+use Rattle.firm_tables.specs.Held.{node_seen, nodes_from, no_row, IsRow, Covers, AreHeld}
 
 -- ---- what is seen
 
@@ -309,3 +309,39 @@ pub gone_seen : (os cs more : List (List ℕ)) (rows : List Stored) (nodes : Lis
 gone_seen os cs more rows nodes k was row v h there e w r =
     let lt = node_there os cs rows nodes k v h in
     node_gone os cs more rows k row was lt there e (row_is rows k was lt w) r ∙ ap (λ ns. without ns k) v
+
+-- ---- a node that is like another
+
+pub like_seen : (os cs : List (List ℕ)) (rows : List Stored) (nodes : List FirmNode) (k : ℕ) (row : Stored) (op : NodeOp) (b : ℕ) (operands list : List ℕ)
+    → nodes_from 0 os cs rows ≡ nodes → k < length nodes → row ≡ get_or rows k row → IsRow row op b → list ≡ list_of os k → list ≡ operands → IsLike nodes op b operands k
+like_seen os cs rows nodes k row op b operands list v h e r l o =
+    let seen = seen_node os cs rows nodes k row v h e in record {
+      there = sym (ap (λ (node : FirmNode). node.there) seen) ∙ r.there;
+      op_is = sym (ap (λ (node : FirmNode). node.op) seen) ∙ r.op_is;
+      block_is = sym (ap (λ (node : FirmNode). node.block) seen) ∙ r.block_is;
+      operands_are = sym (ap (λ (node : FirmNode). node.operands) seen) ∙ sym l ∙ o;
+    }
+
+pub seen_like : (os cs : List (List ℕ)) (rows : List Stored) (nodes : List FirmNode) (k : ℕ) (row : Stored) (op : NodeOp) (b : ℕ) (operands : List ℕ)
+    → nodes_from 0 os cs rows ≡ nodes → k < length nodes → row ≡ get_or rows k row → IsLike nodes op b operands k → IsRow row op b × (list_of os k ≡ operands)
+seen_like os cs rows nodes k row op b operands v h e r =
+    let seen = seen_node os cs rows nodes k row v h e in (
+      record {
+        there = ap (λ (node : FirmNode). node.there) seen ∙ r.there;
+        op_is = ap (λ (node : FirmNode). node.op) seen ∙ r.op_is;
+        block_is = ap (λ (node : FirmNode). node.block) seen ∙ r.block_is;
+      },
+      ap (λ (node : FirmNode). node.operands) seen ∙ r.operands_are,
+    )
+
+pub matches : {P Q : Type 0} (answer : Bool) → MatchBool answer P (P → ⊥) → (P → Q) → (Q → P) → MatchBool answer Q (Q → ⊥)
+matches true p f g = f p
+matches false p f g = λ q. p (g q)
+
+pub refuses : {P : Type 0} (answer : Bool) → answer ≡ false → MatchBool answer P (P → ⊥) → P → ⊥
+refuses true e p = absurd (true≢false e)
+refuses false e p = p
+
+pub agrees : {P : Type 0} (answer : Bool) → answer ≡ true → MatchBool answer P (P → ⊥) → P
+agrees true e p = p
+agrees false e p = absurd (true≢false (sym e))

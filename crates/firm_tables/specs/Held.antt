@@ -1,7 +1,8 @@
 -- How nodes and blocks stand in the tables.
-use Rattle.std.specs.Prelude.{◌≡◌, ◌==◌, ℕ, suc, Bool, false, ◌&&◌, if◌then◌else◌, ◌<◌, ◌≤◌, List, [], ◌∷◌, ◌++◌, length, option_map, slice_index_or}
+use Rattle.std.specs.Prelude.{◌≡◌, ◌==◌, ℕ, suc, Bool, true, false, ◌&&◌, if◌then◌else◌, ◌<◌, ◌≤◌, List, [], ◌∷◌, ◌++◌, length, option_map, slice_index_or}
 use Rattle.cp_obstack.specs.Lists.{list_of}
 use Rattle.firm_uses.specs.Counts.{times, Used}
+use Rattle.firm_rules.specs.declared.node.NodeOp.{NodeOp}
 use Rattle.firm_rules.specs.declared.node.NodeOp.TheVariants.{Unknown}
 use Rattle.firm_uses.specs.Tables.{with_list}
 use Rattle.firm_rules.specs.Replacing.{renamed_end}
@@ -44,6 +45,11 @@ no_row = record { op = Unknown; block = 0; there = false }
 
 abbrev pub is_in : Stored → ℕ → Bool
 is_in row b = row.there && (row.block == b)
+
+pub record IsRow (row : Stored) (op : NodeOp) (b : ℕ) : Type 0 where
+  pub there : row.there ≡ true
+  pub op_is : row.op ≡ op
+  pub block_is : row.block ≡ b
 
 -- each block lists the nodes that are there in it, each once
 abbrev pub AreMembers : List Stored → List (List ℕ) → Type 0

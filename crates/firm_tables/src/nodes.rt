@@ -2,6 +2,7 @@
 ghost use Rattle.std.specs.Prelude.{◌≡◌, ◌≢◌, ◌<◌, [], ◌∷◌, ◌++◌, ℕ, true, MatchBool, length, map, if◌then◌else◌, slice_index, OnOk, OnErr, IfOk};
 ghost use Rattle.std.specs.List.{remove};
 ghost use Rattle.firm_uses.specs.Counts.{times};
+ghost use Rattle.firm_tables.specs.Held.{IsRow};
 ghost use Rattle.firm_tables.specs.Nodes.{numbers, stands_in, IsLike, node_of, made, with_operands, without, renamed_node, replaced};
 
 use crate::members::Members;
@@ -123,10 +124,10 @@ impl Nodes {
         ensures { MatchBool result (IsLike self.now op block (numbers operands.now) number) (IsLike self.now op block (numbers operands.now) number → ⊥) }
     {
         let row = self.rows[number];
-        row.there
-            && row.op == op
-            && row.block == block
-            && are_numbers(self.operands.list(number), operands)
+        if !is_row(row, op, block) {
+            return false;
+        }
+        are_numbers(self.operands.list(number), operands)
     }
 
     /// What is now in the place of the node.
@@ -220,6 +221,19 @@ impl Nodes {
         let _ = self.currents.replace(old, to);
         Ok(())
     }
+}
+
+// The row is of a node that is there in the block and has the operation.
+fn is_row(row: Stored, op: NodeOp, block: usize) -> bool
+    ensures { MatchBool result (IsRow row op block) (IsRow row op block → ⊥) }
+{
+    if !row.there {
+        return false;
+    }
+    if row.block != block {
+        return false;
+    }
+    row.op == op
 }
 
 // The list is the numbers of the nodes.

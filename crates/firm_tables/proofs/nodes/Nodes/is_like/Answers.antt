@@ -8,8 +8,8 @@ index-requires c = search (rules, node_there c.self.inside.operands.uses c.self.
 pub list-requires : goal.list-requires
 list-requires c = omega (arith, node_there c.self.inside.operands.uses c.self.inside.currents.uses c.self.inside.rows.items c.args.self.now c.args.number c.self.view_is c.requires, c.self.invariant.0.operands_cover.users)
 
-pub returns-then-row-block : goal.returns-then-row-block
-returns-then-row-block c = ?
+pub returns : goal.returns
+returns c = ?
 
-pub returns-else-row-block : goal.returns-else-row-block
-returns-else-row-block c = ?
+pub returns-then-is_row : goal.returns-then-is_row
+returns-then-is_row c = ?
