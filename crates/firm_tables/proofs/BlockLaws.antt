@@ -1,6 +1,6 @@
 -- What a change of the tables does to the blocks that are seen in them.
-use Rattle.std.proofs.Common.{◌≡◌, ◌≢◌, ◌==◌, ℕ, zero, suc, ◌+◌, ◌<◌, ◌≤◌, Bool, true, false, List, [], ◌∷◌, ◌++◌, length, take, drop, map, get_or, set, refl, sym, ap, ap₂, ◌∙◌, arith, subst, Option, Some, None, option_map, inl, inr, Result, Ok, Err, IsOk, is_ok, OnOk, OnErr, if◌then◌else◌}
-use Rattle.std.proofs.lemmas.List.{length-set, length-map, set-set, set-get_or, get_or-set_same, get_or-set_other, get_or_default, take_at, take_all, drop_all, append-nil}
+use Rattle.std.proofs.Common.{◌≡◌, ◌≢◌, ℕ, zero, suc, ◌+◌, ◌<◌, ◌≤◌, true, false, List, [], ◌∷◌, ◌++◌, length, take, drop, map, get_or, set, refl, sym, ap, ap₂, ◌∙◌, arith, subst, Option, Some, None, option_map, Result, Ok, Err, IsOk, is_ok, OnOk, OnErr, if◌then◌else◌}
+use Rattle.std.proofs.lemmas.List.{length-set, set-set, set-get_or, get_or-set_same, get_or-set_other, get_or_default, take_at, take_all, drop_all, append-nil}
 use Rattle.std.proofs.Math.Numerals.{suc-eq-add-one}
 use Rattle.cp_obstack.specs.Lists.{list_of}
 use Rattle.firm_uses.specs.Tables.{with_list}
@@ -80,7 +80,7 @@ end_set preds rows k end was h w =
     block_set preds rows k (record { end = end; sealed = was.sealed })
     ∙ ap (λ (block : FirmBlock). set (blocks_from 0 preds rows) k block)
     (ap (λ (s : StoredBlock). record { preds = list_of preds k; end = end; sealed = s.sealed }) w
-        ∙ ap (λ (block : FirmBlock). record block { end = end }) (sym (blocks_at preds rows k h)))
+    ∙ ap (λ (block : FirmBlock). record block { end = end }) (sym (blocks_at preds rows k h)))
 
 pub seal_set : (preds : List (List ℕ)) (rows : List StoredBlock) (k : ℕ) (was : StoredBlock) → k < length rows → was ≡ get_or rows k no_block
     → blocks_from 0 preds (set rows k (record { end = was.end; sealed = true })) ≡ sealed_at (blocks_from 0 preds rows) k
@@ -88,7 +88,7 @@ seal_set preds rows k was h w =
     block_set preds rows k (record { end = was.end; sealed = true })
     ∙ ap (λ (block : FirmBlock). set (blocks_from 0 preds rows) k block)
     (ap (λ (s : StoredBlock). record { preds = list_of preds k; end = s.end; sealed = true }) w
-        ∙ ap (λ (block : FirmBlock). record block { sealed = true }) (sym (blocks_at preds rows k h)))
+    ∙ ap (λ (block : FirmBlock). record block { sealed = true }) (sym (blocks_at preds rows k h)))
 
 preds_from : (b m : ℕ) (preds more : List (List ℕ)) (rows : List StoredBlock) (k : ℕ) (list : List ℕ) → b + k ≡ m
     → ((j : ℕ) → j ≢ m → list_of more j ≡ list_of preds j) → list_of more m ≡ list

@@ -1,16 +1,16 @@
 -- The nodes that each block lists.
-use Rattle.std.proofs.Common.{◌≡◌, ◌≢◌, ◌==◌, ℕ, zero, suc, ◌+◌, ◌<◌, ◌≤◌, Bool, true, false, ◌&&◌, List, [], ◌∷◌, ◌++◌, length, map, get_or, set, refl, sym, ap, ap₂, ◌∙◌, arith, subst, if◌then◌else◌, cond, inl, inr, true≢false}
+use Rattle.std.proofs.Common.{◌≡◌, ◌≢◌, ◌==◌, ℕ, zero, suc, ◌+◌, ◌<◌, ◌≤◌, Bool, true, false, ◌&&◌, List, [], ◌∷◌, ◌++◌, length, map, get_or, set, refl, sym, ap, ap₂, ◌∙◌, arith, if◌then◌else◌, cond, inl, inr, true≢false}
 use Rattle.std.proofs.lemmas.Bool.{cases_eq, cases_lt, eq-eqb, ne_eqb}
-use Rattle.std.proofs.lemmas.List.{get_or-set_same, get_or-set_other, get_or_append_left, get_or_at, length-set, length-map}
+use Rattle.std.proofs.lemmas.List.{get_or-set_same, get_or-set_other, get_or_at, length-map}
 use Rattle.std.specs.List.{remove}
 use Rattle.cp_obstack.specs.Lists.{list_of}
 use Rattle.firm_uses.specs.Counts.{times}
-use Rattle.firm_uses.proofs.CountLaws.{one, one_same, one_other, times_push, times-remove, times_front}
+use Rattle.firm_uses.proofs.CountLaws.{one, one_same, one_other, times_push, times-remove}
 use Rattle.firm_rules.specs.declared.node.NodeId.{NodeId}
 use Rattle.firm_rules.specs.Graphs.{FirmNode}
 use Rattle.firm_tables.specs.declared.nodes.Stored.{Stored}
-use Rattle.firm_tables.specs.Nodes.{numbers, stands_in, no_node, node_of}
-use Rattle.firm_tables.specs.Held.{nodes_from, node_seen, no_row, is_in, AreMembers}
+use Rattle.firm_tables.specs.Nodes.{numbers, stands_in, node_of}
+use Rattle.firm_tables.specs.Held.{nodes_from, no_row, is_in, AreMembers}
 use Rattle.firm_tables.proofs.NodeLaws.{nodes_at, past_nodes}
 
 -- 1 where the row's node is there in the block

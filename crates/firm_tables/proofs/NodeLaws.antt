@@ -1,6 +1,6 @@
 -- What a change of the tables does to the nodes that are seen in them.
-use Rattle.std.proofs.Common.{◌≡◌, ◌≢◌, ℕ, zero, suc, ◌+◌, ◌<◌, ◌≤◌, Bool, true, false, List, [], ◌∷◌, ◌++◌, length, map, take, get_or, set, refl, sym, ap, ap₂, ◌∙◌, arith, subst, inl, inr, true≢false, Result, Ok, Err, is_err, OnOk, OnErr, MatchBool}
-use Rattle.std.proofs.lemmas.List.{length-set, length-map, set-set, set-get_or, get_or-set_same, get_or-set_other, get_or_default, take_more}
+use Rattle.std.proofs.Common.{◌≡◌, ◌≢◌, ℕ, zero, suc, ◌+◌, ◌<◌, ◌≤◌, Bool, true, false, List, [], ◌∷◌, ◌++◌, length, map, take, get_or, set, refl, sym, ap, ap₂, ◌∙◌, arith, inl, inr, true≢false, Result, Ok, Err, is_err, OnOk, OnErr, MatchBool}
+use Rattle.std.proofs.lemmas.List.{length-set, length-map, set-get_or, get_or-set_same, get_or-set_other, get_or_default, take_more}
 use Rattle.std.proofs.lemmas.Bool.{cases_eq, cases_lt}
 use Rattle.cp_obstack.specs.Lists.{list_of}
 use Rattle.firm_uses.specs.Tables.{with_list}
@@ -75,7 +75,7 @@ node_made os cs more others rows row operands there now own o c =
     pushed_from 0 (length rows) os cs more others rows row (omega arith) o c
     ∙ ap (λ (node : FirmNode). nodes_from 0 os cs rows ++ node ∷ [])
     (made_of (length rows) row.block row.op row.there operands (list_of more (length rows)) (list_of others (length rows)) there now own
-        ∙ ap (λ n. made n row.op row.block operands) (sym (nodes_long 0 os cs rows)))
+    ∙ ap (λ n. made n row.op row.block operands) (sym (nodes_long 0 os cs rows)))
 
 -- ---- one node changes
 
@@ -101,7 +101,7 @@ operands_are os cs more rows k list h there e =
     ap (nodes_from 0 more cs) (sym (set_own rows k no_row)) ∙ set_from 0 k os cs more rows k (get_or rows k no_row) (omega arith) others
     ∙ ap (λ (node : FirmNode). set (nodes_from 0 os cs rows) k node)
     (ap (λ (l : List ℕ). record (node_seen os cs k (get_or rows k no_row)) { operands = l }) own
-        ∙ ap (λ (node : FirmNode). record node { operands = list }) (sym (nodes_at os cs rows k h)))
+    ∙ ap (λ (node : FirmNode). record node { operands = list }) (sym (nodes_at os cs rows k h)))
 
 -- one node is gone
 pub node_gone : (os cs more : List (List ℕ)) (rows : List Stored) (k : ℕ) (row was : Stored) → k < length rows → k < length os
@@ -113,7 +113,7 @@ node_gone os cs more rows k row was h there e w r =
     set_from 0 k os cs more rows k row (omega arith) others
     ∙ ap (λ (node : FirmNode). set (nodes_from 0 os cs rows) k node)
     (ap₂ (λ (l : List ℕ) (s : Stored). record { op = s.op; block = s.block; operands = l; there = s.there; current = get_or (list_of cs k) 0 0 }) own r
-        ∙ ap (λ (s : Stored). gone (node_seen os cs k s)) w ∙ ap gone (sym (nodes_at os cs rows k h)))
+    ∙ ap (λ (s : Stored). gone (node_seen os cs k s)) w ∙ ap gone (sym (nodes_at os cs rows k h)))
 
 -- ---- a node in the place of another
 
@@ -132,8 +132,8 @@ nodes_renamed n old to os cs [] h = refl
 nodes_renamed n old to os cs (r ∷ rows) h =
     ap₂ (λ a b. a ∷ b)
     (ap₂ (λ (operands : List ℕ) (current : ℕ). record { op = r.op; block = r.block; operands = operands; there = r.there; current = current })
-        (renamed_list old to os n)
-        (ap (λ l. get_or l 0 0) (renamed_list old to cs n) ∙ renamed_current old to (list_of cs n) (h n (omega arith) (omega arith))))
+    (renamed_list old to os n)
+    (ap (λ l. get_or l 0 0) (renamed_list old to cs n) ∙ renamed_current old to (list_of cs n) (h n (omega arith) (omega arith))))
     (nodes_renamed (suc n) old to os cs rows (λ k lo hi. h k (omega arith) (omega arith)))
 
 -- ---- what always holds

@@ -1,5 +1,5 @@
 -- Changes of the list of a graph's blocks, each at its number.
-use Rattle.std.specs.Prelude.{ℕ, Bool, true, false, List, [], ◌∷◌, ◌++◌, map, option_map, Option, Some, None, slice_index_or, slice_set}
+use Rattle.std.specs.Prelude.{ℕ, true, false, List, [], ◌∷◌, ◌++◌, option_map, Option, None, slice_index_or, slice_set}
 use Rattle.firm_rules.specs.declared.node.FirmEnd.{FirmEnd}
 use Rattle.firm_rules.specs.Graphs.{FirmBlock}
 use Rattle.firm_rules.specs.Replacing.{renamed_end}

@@ -160,12 +160,7 @@ fn list_for(preds: &mut Rows, number: usize) -> Result<(), AllocError>
 }
 
 // Two lists gain a number, or neither does.
-fn push_both(
-    preds: &mut Rows,
-    first: usize,
-    second: usize,
-    from: usize,
-) -> Result<(), AllocError>
+fn push_both(preds: &mut Rows, first: usize, second: usize, from: usize) -> Result<(), AllocError>
     requires first { first < length preds.old.rows }
     requires second { second < length preds.old.rows }
     ensures ok { OnOk result (preds.new.rows ≡ pushed (pushed preds.old.rows first from) second from) }

@@ -1,4 +1,4 @@
-use Rattle.std.proofs.Common.{◌≡◌, ◌≢◌, ◌<◌, ◌∙◌, sym, length, arith, get_or}
+use Rattle.std.proofs.Common.{◌<◌, ◌∙◌, sym, length, arith}
 use Rattle.firm_uses.proofs.TieLaws.{look_back}
 use Rattle.firm_tables.specs.Nodes.{numbers}
 use Rattle.firm_tables.proofs.MemberLaws.{number_at, numbers_long}

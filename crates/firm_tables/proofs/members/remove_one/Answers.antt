@@ -1,4 +1,4 @@
-use Rattle.std.proofs.Common.{◌≡◌, ◌<◌, ◌∙◌, sym, ap, subst, length, get_or}
+use Rattle.std.proofs.Common.{◌≡◌, ◌<◌, subst, length, get_or}
 use Rattle.firm_tables.specs.Nodes.{numbers}
 use Rattle.firm_tables.proofs.MemberLaws.{removed_one}
 use Rattle.firm_tables.proofs.members.remove_one.Goals as goal

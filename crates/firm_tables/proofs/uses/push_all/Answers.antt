@@ -1,4 +1,4 @@
-use Rattle.std.proofs.Common.{◌≡◌, ◌<◌, ◌≤◌, ◌++◌, ◌∷◌, [], ◌∙◌, sym, ap, length, suc, arith, get_or}
+use Rattle.std.proofs.Common.{◌<◌, ◌++◌, ◌∷◌, [], ◌∙◌, sym, ap, length, suc, arith, get_or}
 use Rattle.std.proofs.lemmas.List.{get_or-set_other}
 use Rattle.cp_obstack.specs.Lists.{list_of}
 use Rattle.firm_tables.specs.Nodes.{numbers}
@@ -9,8 +9,12 @@ use Rattle.firm_tables.proofs.uses.push_all.Goals as goal
 pub push-requires-clause-used : goal.push-requires-clause-used
 push-requires-clause-used c =
     let list = c.args.list.now in
-    omega (arith, c.requires.list c.loop-used.used-index c.loop-used-test.true, number_at list c.loop-used.used-index (record { number = 0 }) c.loop-used-test.true,
-      c.loop-used.invariant.0.used_ones)
+    omega (
+      arith,
+      c.requires.list c.loop-used.used-index c.loop-used-test.true,
+      number_at list c.loop-used.used-index (record { number = 0 }) c.loop-used-test.true,
+      c.loop-used.invariant.0.used_ones,
+    )
 
 pub loop-used-preserved : goal.loop-used-preserved
 loop-used-preserved c =

@@ -1,4 +1,4 @@
-use Rattle.std.proofs.Common.{◌∙◌, sym, ap, length, arith, refl}
+use Rattle.std.proofs.Common.{◌∙◌, ap, length, arith}
 use Rattle.firm_tables.specs.Blocks.{new_block}
 use Rattle.std.proofs.Common.{◌++◌, ◌∷◌, []}
 use Rattle.firm_tables.specs.Held.{blocks_from}
@@ -9,8 +9,8 @@ pub returns-in_err-list_for-clause-err : goal.returns-in_err-list_for-clause-err
 returns-in_err-list_for-clause-err c =
     any_err c.from_residual-in_err-list_for.result
     (ap (λ rs. blocks_from 0 c.list_for.new.preds.rows rs) c.reserve.ensures.items
-        ∙ blocks_same 0 c.self.inside.preds.rows c.list_for.new.preds.rows c.self.inside.rows.items (λ k lo hi. c.list_for.ensures.same k)
-        ∙ c.self.view_is)
+    ∙ blocks_same 0 c.self.inside.preds.rows c.list_for.new.preds.rows c.self.inside.rows.items (λ k lo hi. c.list_for.ensures.same k)
+    ∙ c.self.view_is)
 
 pub returns-clause-ok : goal.returns-clause-ok
 returns-clause-ok c =

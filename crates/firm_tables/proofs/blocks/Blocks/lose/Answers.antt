@@ -1,4 +1,4 @@
-use Rattle.std.proofs.Common.{◌∙◌, ◌<◌, sym, ap, ap₂, subst, length}
+use Rattle.std.proofs.Common.{◌∙◌, ◌<◌, sym, ap₂, subst, length}
 use Rattle.std.specs.List.{remove}
 use Rattle.cp_obstack.specs.Lists.{list_of}
 use Rattle.firm_tables.specs.Blocks.{with_preds}

@@ -1,6 +1,5 @@
-use Rattle.std.proofs.Common.{◌≡◌, ◌∙◌, List, ap, map, length, arith}
+use Rattle.std.proofs.Common.{◌≡◌, ◌∙◌, ap, map, length, arith}
 use Rattle.std.proofs.lemmas.List.{with_items_is, length-map}
-use Rattle.firm_tables.specs.declared.blocks.StoredBlock.{StoredBlock}
 use Rattle.firm_tables.specs.Held.{blocks_from, renamed_row}
 use Rattle.firm_tables.specs.Blocks.{renamed_block}
 use Rattle.firm_tables.proofs.BlockLaws.{ends_renamed}

@@ -9,9 +9,9 @@ pub returns-in_err-push-clause-err : goal.returns-in_err-push-clause-err
 returns-in_err-push-clause-err c =
     any_err c.from_residual-in_err-push.result
     (list_written (λ list. numbers list.items) c.self.inside.lists.items c.args.block c.push.new.self c.widen.new.self c.self.view_is c.in_ok-widen.ensures.ok
-        ∙ ap numbers c.in_err-push.ensures.items
-        ∙ list_read (λ list. numbers list.items) c.self.inside.lists.items c.args.block c.index_mut.result.now c.widen.new.self c.self.view_is c.in_ok-widen.ensures.ok c.index_mut.ensures.value
-        ∙ c.widen.ensures.same c.args.block)
+    ∙ ap numbers c.in_err-push.ensures.items
+    ∙ list_read (λ list. numbers list.items) c.self.inside.lists.items c.args.block c.index_mut.result.now c.widen.new.self c.self.view_is c.in_ok-widen.ensures.ok c.index_mut.ensures.value
+    ∙ c.widen.ensures.same c.args.block)
 
 pub returns-in_err-push-clause-others : goal.returns-in_err-push-clause-others
 returns-in_err-push-clause-others c = λ other ne.
@@ -24,7 +24,7 @@ returns-clause-ok c =
     ∙ ap numbers c.in_ok-push.ensures.items ∙ numbers_pushed c.index_mut.result.now.items (record { number = c.args.node })
     ∙ ap (λ l. l ++ c.args.node ∷ [])
     (list_read (λ list. numbers list.items) c.self.inside.lists.items c.args.block c.index_mut.result.now c.widen.new.self c.self.view_is c.in_ok-widen.ensures.ok c.index_mut.ensures.value
-        ∙ c.widen.ensures.same c.args.block)
+    ∙ c.widen.ensures.same c.args.block)
 
 pub returns-clause-others : goal.returns-clause-others
 returns-clause-others c = λ other ne.

@@ -1,4 +1,4 @@
-use Rattle.std.proofs.Common.{◌≡◌, ◌+◌, ◌∙◌, ap}
+use Rattle.std.proofs.Common.{◌+◌, ◌∙◌, ap}
 use Rattle.cp_obstack.specs.Lists.{list_of}
 use Rattle.firm_uses.specs.Counts.{times}
 use Rattle.firm_uses.proofs.CountLaws.{one, row_is_there}

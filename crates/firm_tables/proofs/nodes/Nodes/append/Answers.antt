@@ -1,4 +1,4 @@
-use Rattle.std.proofs.Common.{◌∙◌, ◌++◌, ◌∷◌, [], arith}
+use Rattle.std.proofs.Common.{◌++◌, ◌∷◌, [], arith}
 use Rattle.cp_obstack.specs.Lists.{list_of}
 use Rattle.firm_tables.proofs.NodeLaws.{node_there, held_ok, operands_change}
 use Rattle.firm_tables.proofs.BlockLaws.{then_ok}
@@ -21,5 +21,5 @@ pub returns-clause-ok : goal.returns-clause-ok
 returns-clause-ok c =
     then_ok c.push.result c.push.ensures.ok
     (λ e. operands_change c.self.inside.operands.uses c.self.inside.currents.uses c.push.new.self.uses c.self.inside.rows.items c.args.self.now c.args.number (λ l. l ++ c.args.operand ∷ [])
-        c.self.view_is c.requires.there
-        (omega (arith, node_there c.self.inside.operands.uses c.self.inside.currents.uses c.self.inside.rows.items c.args.self.now c.args.number c.self.view_is c.requires.there, c.self.invariant.0.operands_cover.users)) c.self.invariant.0.empty e)
+    c.self.view_is c.requires.there
+    (omega (arith, node_there c.self.inside.operands.uses c.self.inside.currents.uses c.self.inside.rows.items c.args.self.now c.args.number c.self.view_is c.requires.there, c.self.invariant.0.operands_cover.users)) c.self.invariant.0.empty e)

@@ -1,4 +1,4 @@
-use Rattle.std.proofs.Common.{◌∙◌, ◌<◌, sym, subst, length, arith}
+use Rattle.std.proofs.Common.{◌<◌, sym, subst, length, arith}
 use Rattle.std.specs.List.{remove}
 use Rattle.cp_obstack.specs.Lists.{list_of}
 use Rattle.firm_tables.proofs.NodeLaws.{node_there, seen_operands, held_set, operands_change}

@@ -1,4 +1,4 @@
-use Rattle.std.proofs.Common.{◌≡◌, ◌∙◌, ap, length, arith}
+use Rattle.std.proofs.Common.{◌∙◌, ap, length, arith}
 use Rattle.firm_uses.specs.Counts.{renamed_rows}
 use Rattle.firm_uses.proofs.EditLaws.{on_ok}
 use Rattle.firm_tables.proofs.NodeLaws.{node_there, held_renamed, renamed_seen}
