@@ -1,5 +1,6 @@
 // The graph and its calls.
-ghost use Rattle.std.specs.Prelude.{◌≡◌, ◌≢◌, ◌<◌, ℕ, List, [], ◌∷◌, true, false, length, map, if◌then◌else◌, OnOk, OnErr, IfOk, Option, Some, None, slice_get};
+ghost use Rattle.std.specs.Prelude.{◌≡◌, ◌≢◌, ◌==◌, ◌<◌, ℕ, List, [], ◌∷◌, true, false, length, map, if◌then◌else◌, OnOk, OnErr, IfOk, Option, Some, None, slice_get};
+ghost use Rattle.std.specs.List.{remove, position_or_len};
 ghost use Rattle.firm_uses.specs.Counts.{times};
 ghost use Rattle.firm_rules.specs.declared.node.NodeOp.TheVariants.{Param, Phi};
 ghost use Rattle.firm_rules.specs.Graphs.{operands_of};
@@ -7,6 +8,7 @@ ghost use Rattle.firm_rules.specs.Lookups.{IsBlock, first_of, preds_of, end_of, 
 ghost use Rattle.firm_rules.specs.Rules.{is_phi, uses, OperandsFit};
 ghost use Rattle.firm_tables.specs.Nodes.{numbers, stands_in, node_of};
 ghost use Rattle.firm_tables.specs.Blocks.{block_of};
+ghost use Rattle.firm_nodes.specs.Kept.{block_numbers};
 ghost use Rattle.firm_nodes.specs.Calls.{IsNode, IsUnused, IsAdded, first_graph, with_block, with_node, appended, with_replaced, without_node, without_block, seals, ended};
 
 use crate::likes::like;
@@ -31,11 +33,11 @@ impl Model for Graph {
 
     ghost Value = { Firm };
 
-    ghost use Rattle.firm_nodes.specs.Kept.{graph_of, IsKept};
+    ghost use Rattle.firm_nodes.specs.Kept.{graph_of, block_numbers, IsKept};
 
     ghost view = { λ g. graph_of g.name g.params g.order.items g.blocks g.nodes };
 
-    ghost invariant = { λ g. IsKept (graph_of g.name g.params g.order.items g.blocks g.nodes) };
+    ghost invariant = { λ g. IsKept (block_numbers g.order.items) g.blocks };
 }
 
 impl Graph {
