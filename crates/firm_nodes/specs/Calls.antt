@@ -29,6 +29,9 @@ pub record IsUnused (g : Firm) (n : ℕ) : Type 0 where
 abbrev pub parameter : ℕ → FirmNode
 parameter i = made (suc i) (Param i) 0 []
 
+abbrev pub entry : ℕ → List FirmNode
+entry params = made 0 Start 0 [] ∷ map parameter (range_with_len 0 params)
+
 -- one block, sealed, with `Start` and then the parameters
 abbrev pub first_graph : List ℕ → ℕ → Firm
 first_graph name params = record {
@@ -36,7 +39,7 @@ first_graph name params = record {
   params = params;
   order = 0 ∷ [];
   blocks = record new_block { sealed = true } ∷ [];
-  nodes = made 0 Start 0 [] ∷ map parameter (range_with_len 0 params);
+  nodes = entry params;
 }
 
 -- the new block is the last one of the order

@@ -9,7 +9,7 @@ ghost use Rattle.firm_rules.specs.Rules.{is_phi, uses, OperandsFit};
 ghost use Rattle.firm_tables.specs.Nodes.{numbers, stands_in, node_of};
 ghost use Rattle.firm_tables.specs.Blocks.{block_of};
 ghost use Rattle.firm_nodes.specs.Kept.{block_numbers};
-ghost use Rattle.firm_nodes.specs.Calls.{IsNode, IsUnused, IsAdded, first_graph, with_block, with_node, appended, with_replaced, without_node, without_block, seals, ended};
+ghost use Rattle.firm_nodes.specs.Calls.{entry, IsNode, IsUnused, IsAdded, first_graph, with_block, with_node, appended, with_replaced, without_node, without_block, seals, ended};
 
 use crate::likes::like;
 use cp_base::Name;
@@ -67,11 +67,7 @@ impl Graph {
     {
         let block = self.add_block()?;
         self.seal(block);
-        self.nodes.add(NodeOp::Start, 0, &[])?;
-        for param in 0..self.params {
-            self.nodes.add(NodeOp::Param(param), 0, &[])?;
-        }
-        Ok(())
+        first_nodes(&mut self.nodes, self.params)
     }
 
     /// A new block, which comes last in the order.
@@ -262,6 +258,18 @@ impl Graph {
     {
         self.params
     }
+}
+
+// `Start` and the parameters.
+fn first_nodes(nodes: &mut Nodes, params: usize) -> Result<(), AllocError>
+    requires { nodes.old ≡ [] }
+    ensures { OnOk result (nodes.new ≡ entry params) }
+{
+    nodes.add(NodeOp::Start, 0, &[])?;
+    for param in 0..params {
+        nodes.add(NodeOp::Param(param), 0, &[])?;
+    }
+    Ok(())
 }
 
 // Takes the block out of the order.

@@ -22,26 +22,24 @@ pub(crate) fn like(
         return None;
     }
     match operands.first() {
-        Some(first) => like_among_users(nodes, first.number, op, block, operands),
-        None => like_in_block(nodes, op, block),
+        Some(first) => like_among(nodes, nodes.users(first.number), op, block, operands),
+        None => like_in(nodes, nodes.members(block), op, block),
     }
 }
 
-// A node that is like it is among the users of the first operand.
-fn like_among_users(
+// Where some of the users is such a node, one that is.
+fn like_among(
     nodes: &Nodes,
-    first: usize,
+    users: &[usize],
     op: NodeOp,
     block: usize,
     operands: &[NodeId],
 ) -> Option<NodeId>
-    requires there { first < length nodes.now }
-    requires some { 0 < length operands.now }
-    requires first { slice_index (numbers operands.now) 0 ≡ first }
+    requires { (index : ℕ) → index < length users.now → slice_index users.now index < length nodes.now }
     ensures some { IfSome result (λ node. IsLike nodes.now op block (numbers operands.now) node.number) }
-    ensures none { IfNone result ((m : ℕ) → IsLike nodes.now op block (numbers operands.now) m → ⊥) }
+    ensures none { IfNone result ((index : ℕ) → index < length users.now → IsLike nodes.now op block (numbers operands.now) (slice_index users.now index) → ⊥) }
 {
-    for user in nodes.users(first) {
+    for user in users {
         if nodes.is_like(*user, op, block, operands) {
             return Some(NodeId { number: *user });
         }
@@ -49,12 +47,13 @@ fn like_among_users(
     None
 }
 
-// The same of a node without operands.
-fn like_in_block(nodes: &Nodes, op: NodeOp, block: usize) -> Option<NodeId>
+// The same without operands, among nodes.
+fn like_in(nodes: &Nodes, members: &[NodeId], op: NodeOp, block: usize) -> Option<NodeId>
+    requires { (index : ℕ) → index < length members.now → slice_index (numbers members.now) index < length nodes.now }
     ensures some { IfSome result (λ node. IsLike nodes.now op block [] node.number) }
-    ensures none { IfNone result ((m : ℕ) → IsLike nodes.now op block [] m → ⊥) }
+    ensures none { IfNone result ((index : ℕ) → index < length members.now → IsLike nodes.now op block [] (slice_index (numbers members.now) index) → ⊥) }
 {
-    for node in nodes.members(block) {
+    for node in members {
         if nodes.is_like(node.number, op, block, &[]) {
             return Some(*node);
         }
