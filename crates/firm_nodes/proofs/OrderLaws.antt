@@ -2,6 +2,8 @@
 use Rattle.std.proofs.Common.{◌≡◌, ◌≢◌, ◌==◌, ℕ, zero, suc, ◌+◌, ◌<◌, ◌≤◌, Bool, true, false, not, List, [], ◌∷◌, length, get_or, refl, sym, ap, ◌∙◌, arith, cond, inl, inr}
 use Rattle.std.proofs.lemmas.Bool.{cases_eq, cases_lt, eq-eqb, ne_eqb}
 use Rattle.std.specs.List.{remove, position_or_len}
+use Rattle.firm_rules.specs.declared.node.BlockId.{BlockId}
+use Rattle.firm_nodes.specs.Kept.{block_numbers}
 
 abbrev pub place : ℕ → List ℕ → ℕ
 place b order = position_or_len (λ c. c == b) order
@@ -21,13 +23,14 @@ place_is b (x ∷ order) h = elim (cases_eq x b) [
 
 pub before : (b : ℕ) (order : List ℕ) (k : ℕ) → k < place b order → get_or order k 0 ≢ b
 before b [] k h = absurd (omega arith)
-before b (x ∷ order) k h = elim (cases_eq x b) [
+before b (x ∷ order) zero h = elim (cases_eq x b) [
   | inl same ↦ absurd (omega (arith, h, here x b order same))
-  | inr ne ↦ from k (omega (arith, h, behind x b order ne)) ne
-] where
-  from : (k : ℕ) → k < suc (place b order) → x ≢ b → get_or (x ∷ order) k 0 ≢ b
-  from zero lt ne = ne
-  from (suc k) lt ne = before b order k (omega arith)
+  | inr ne ↦ ne
+]
+before b (x ∷ order) (suc k) h = elim (cases_eq x b) [
+  | inl same ↦ absurd (omega (arith, h, here x b order same))
+  | inr ne ↦ before b order k (omega (arith, h, behind x b order ne))
+]
 
 -- a step of the search
 pub search_on : (b at : ℕ) (order : List ℕ) → place b order < length order → at ≤ place b order → get_or order at 0 ≢ b → at + 1 ≤ place b order
@@ -53,3 +56,29 @@ removed_from (x ∷ list) (suc i) zero h = (0, (omega arith, refl))
 removed_from (x ∷ list) (suc i) (suc k) h =
     let found = removed_from list i k (omega (arith, h)) in
     (suc found.0, (omega (arith, found.1.0), found.1.1))
+
+-- ---- names of blocks, by their numbers
+
+pub blocks_long : (ids : List BlockId) → length (block_numbers ids) ≡ length ids
+blocks_long [] = refl
+blocks_long (x ∷ ids) = ap suc (blocks_long ids)
+
+pub block_at : (ids : List BlockId) (i : ℕ) (d : BlockId) → i < length ids → get_or (block_numbers ids) i 0 ≡ (get_or ids i d).number
+block_at [] i d h = absurd (omega arith)
+block_at (x ∷ ids) zero d h = refl
+block_at (x ∷ ids) (suc i) d h = block_at ids i d (omega arith)
+
+pub blocks_removed : (ids : List BlockId) (i : ℕ) → block_numbers (remove ids i) ≡ remove (block_numbers ids) i
+blocks_removed [] zero = refl
+blocks_removed [] (suc i) = refl
+blocks_removed (x ∷ ids) zero = refl
+blocks_removed (x ∷ ids) (suc i) = ap (λ l. x.number ∷ l) (blocks_removed ids i)
+
+-- the block that is read, within the order
+pub read_block : (ids : List BlockId) (b at : ℕ) (read : BlockId) → place b (block_numbers ids) < length (block_numbers ids) → at ≤ place b (block_numbers ids)
+    → read ≡ get_or ids at read → get_or (block_numbers ids) at 0 ≡ read.number
+read_block ids b at read h le e =
+    block_at ids at read (omega (arith, h, le, blocks_long ids)) ∙ ap (λ (id : BlockId). id.number) (sym e)
+
+pub taken_out : (ids after : List BlockId) (b at : ℕ) → at ≡ place b (block_numbers ids) → after ≡ remove ids at → block_numbers after ≡ remove (block_numbers ids) (place b (block_numbers ids))
+taken_out ids after b at e a = ap block_numbers a ∙ blocks_removed ids at ∙ ap (remove (block_numbers ids)) e
