@@ -1,15 +1,15 @@
 -- What holds of each graph, after each call.
-use Rattle.std.proofs.Common.{◌≡◌, ◌≢◌, ℕ, zero, suc, ◌+◌, ◌<◌, ◌≤◌, Bool, true, false, List, [], ◌∷◌, ◌++◌, length, map, get_or, set, refl, sym, ap, ap₂, ◌∙◌, arith, subst, option_map, unwrap_or, Option, Some, None, inl, inr}
-use Rattle.std.proofs.lemmas.Bool.{cases_eq, cases_lt}
+use Rattle.std.proofs.Common.{◌≡◌, ℕ, zero, suc, ◌<◌, true, List, [], ◌∷◌, ◌++◌, length, map, get_or, set, refl, sym, ap, ◌∙◌, arith, subst, option_map, unwrap_or, Option, Some, None, inl, inr}
+use Rattle.std.proofs.lemmas.Bool.{cases_eq}
 use Rattle.std.proofs.lemmas.List.{length-set, length-map, get_or-set_same, get_or-set_other}
 use Rattle.std.proofs.lemmas.Option.{slice_get-get_or}
 use Rattle.std.specs.List.{remove, slice_get}
 use Rattle.firm_rules.specs.declared.node.FirmEnd.{FirmEnd}
 use Rattle.firm_rules.specs.declared.node.FirmEnd.TheVariants.{Jump, Branch, Return}
-use Rattle.firm_rules.specs.Graphs.{FirmBlock, FirmNode, Firm}
+use Rattle.firm_rules.specs.Graphs.{FirmBlock, Firm}
 use Rattle.firm_rules.specs.Lookups.{targets, IsBlock, end_of, preds_of}
 use Rattle.firm_rules.specs.Replacing.{renamed_end}
-use Rattle.firm_tables.specs.Blocks.{new_block, block_of, with_preds, with_end, sealed_at, linked, renamed_block}
+use Rattle.firm_tables.specs.Blocks.{new_block, block_of, with_preds, with_end, linked, renamed_block}
 use Rattle.firm_nodes.specs.Kept.{IsKept}
 use Rattle.firm_nodes.proofs.OrderLaws.{place, place_is, removed_from}
 
@@ -143,6 +143,7 @@ kept_first order blocks o b = subst (λ x. IsKept x blocks) (sym o) (subst (λ x
     within : (index : ℕ) → index < 1 → get_or (0 ∷ []) index 0 < 1
     within zero lt = omega arith
     within (suc index) lt = absurd (omega arith)
+
     none : (b index : ℕ) → index < length (targets (block_of (record new_block { sealed = true } ∷ []) b).end)
         → get_or (targets (block_of (record new_block { sealed = true } ∷ []) b).end) index 0 < 1
     none zero index lt = absurd (omega arith)

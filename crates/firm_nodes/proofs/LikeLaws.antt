@@ -1,18 +1,22 @@
 -- Where equal nodes stand.
-use Rattle.std.proofs.Common.{◌≡◌, ◌≢◌, ◌==◌, ℕ, zero, suc, ◌+◌, ◌<◌, ◌≤◌, Bool, true, false, ◌&&◌, List, [], ◌∷◌, length, get_or, refl, sym, ap, ap₂, ◌∙◌, arith, subst, if◌then◌else◌, cond, inl, inr, map, option_map, unwrap_or, Option, Some, None, IfNone}
-use Rattle.std.proofs.lemmas.Bool.{cases_eq, cases_lt, eq-eqb}
+use Rattle.std.proofs.Common.{◌≡◌, ℕ, zero, suc, ◌+◌, ◌<◌, ◌&&◌, List, [], ◌∷◌, ◌++◌, length, get_or, refl, sym, ap, ap₂, ◌∙◌, arith, subst, if◌then◌else◌, cond, inl, inr, map, option_map, unwrap_or, Option, Some, None, IfNone}
+use Rattle.std.proofs.lemmas.Bool.{cases_eq, eq-eqb}
 use Rattle.std.proofs.lemmas.Option.{slice_get-get_or}
-use Rattle.std.specs.List.{slice_get}
+use Rattle.std.proofs.lemmas.List.{length-map}
+use Rattle.std.proofs.lemmas.List.FromFn.{length-range_with_len, map-range_with_len_more}
+use Rattle.std.specs.List.{slice_get, range_with_len}
 use Rattle.firm_uses.specs.Counts.{times}
-use Rattle.firm_uses.proofs.CountLaws.{one, one_same, one_other, times_found}
+use Rattle.firm_uses.proofs.CountLaws.{one_same, one_other, times_found}
 use Rattle.firm_rules.specs.declared.node.NodeOp.{NodeOp}
+use Rattle.firm_rules.specs.declared.node.NodeOp.TheVariants.{Start, Param}
 use Rattle.firm_rules.specs.declared.node.NodeId.{NodeId}
 use Rattle.firm_rules.specs.declared.node.Mode.{Mode}
 use Rattle.firm_rules.specs.declared.node.Mode.TheVariants.{Word, Memory}
 use Rattle.firm_rules.specs.Graphs.{FirmNode, Firm, Operands, exactly, memory_and_words, all_of, mode_of}
 use Rattle.firm_rules.specs.Lookups.{if_there, mode_at}
 use Rattle.firm_rules.specs.Rules.{OperandsFit}
-use Rattle.firm_tables.specs.Nodes.{numbers, no_node, node_of, stands_in, IsLike}
+use Rattle.firm_tables.specs.Nodes.{numbers, node_of, made, stands_in, IsLike}
+use Rattle.firm_nodes.specs.Calls.{entry, parameter}
 use Rattle.firm_tables.proofs.MemberLaws.{numbers_long}
 
 -- what stands in a list stands at some place
@@ -137,3 +141,11 @@ first_is (x ∷ operands) first e = (omega arith, sym (ap (λ o. (unwrap_or o x)
 pub none_is : (operands : List NodeId) → None ≡ slice_get operands 0 → numbers operands ≡ []
 none_is [] e = refl
 none_is (x ∷ operands) e = absurd (cc)
+
+-- ---- the first nodes
+
+pub entry_more : (nodes after : List FirmNode) (i : ℕ) → nodes ≡ entry i → after ≡ nodes ++ made (length nodes) (Param i) 0 [] ∷ [] → after ≡ entry (i + 1)
+entry_more nodes after i e a =
+    let long : length nodes ≡ suc i = ap length e ∙ ap suc (length-map (range_with_len 0 i) parameter ∙ length-range_with_len 0 i) in
+    a ∙ ap₂ (λ (ns : List FirmNode) (n : ℕ). ns ++ made n (Param i) 0 [] ∷ []) e long
+    ∙ ap (λ ns. made 0 Start 0 [] ∷ ns) (sym (map-range_with_len_more parameter 0 i i (omega arith)))

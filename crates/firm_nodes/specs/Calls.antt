@@ -1,17 +1,16 @@
 -- What each call makes of a graph.
-use Rattle.std.specs.Prelude.{◌≡◌, ◌==◌, ℕ, suc, ◌+◌, ◌<◌, Bool, true, false, ◌&&◌, List, [], ◌∷◌, ◌++◌, length, map, option_map, Option, Some, None, if◌then◌else◌}
+use Rattle.std.specs.Prelude.{◌≡◌, ◌==◌, ℕ, suc, Bool, true, false, ◌&&◌, List, [], ◌∷◌, ◌++◌, length, map, option_map, Option, Some, None, if◌then◌else◌}
 use Rattle.std.specs.List.{remove, range_with_len}
 use Rattle.firm_uses.specs.Counts.{times}
-use Rattle.firm_rules.specs.declared.node.NodeId.{NodeId}
 use Rattle.firm_rules.specs.declared.node.NodeOp.{NodeOp}
 use Rattle.firm_rules.specs.declared.node.NodeOp.TheVariants.{Start, Param, Const}
 use Rattle.firm_rules.specs.declared.node.FirmEnd.{FirmEnd}
 use Rattle.firm_rules.specs.declared.node.FirmEnd.TheVariants.{Branch}
-use Rattle.firm_rules.specs.Graphs.{FirmNode, FirmBlock, Firm, is_pure}
+use Rattle.firm_rules.specs.Graphs.{FirmNode, Firm, is_pure}
 use Rattle.firm_rules.specs.Lookups.{rank, end_of, preds_of, targets}
 use Rattle.firm_rules.specs.Rules.{is_phi, uses}
 use Rattle.firm_tables.specs.Nodes.{node_of, made, stands_in, IsLike, with_operands, without, replaced}
-use Rattle.firm_tables.specs.Blocks.{new_block, block_of, with_preds, with_end, sealed_at, linked, renamed_block}
+use Rattle.firm_tables.specs.Blocks.{new_block, with_preds, with_end, sealed_at, linked, renamed_block}
 
 -- ---- what a call asks
 

@@ -7,12 +7,7 @@ use firm_rules::{NodeId, NodeOp};
 use firm_tables::Nodes;
 
 // Where the operation is pure, a node of the block that has it and these operands, if there is one.
-pub(crate) fn like(
-    nodes: &Nodes,
-    op: NodeOp,
-    block: usize,
-    operands: &[NodeId],
-) -> Option<NodeId>
+pub(crate) fn like(nodes: &Nodes, op: NodeOp, block: usize, operands: &[NodeId]) -> Option<NodeId>
     requires { (index : ℕ) → index < length operands.now → slice_index (numbers operands.now) index < length nodes.now }
     ensures some { IfSome result (λ node. IsLike nodes.now op block (numbers operands.now) node.number) }
     ensures pure { IfSome result (λ node. op_is_pure op ≡ true) }
@@ -66,10 +61,6 @@ fn is_pure(op: NodeOp) -> bool
 {
     matches!(
         op,
-        NodeOp::Param(_)
-            | NodeOp::Const(_)
-            | NodeOp::Addr(_)
-            | NodeOp::Unknown
-            | NodeOp::Apply(_)
+        NodeOp::Param(_) | NodeOp::Const(_) | NodeOp::Addr(_) | NodeOp::Unknown | NodeOp::Apply(_)
     )
 }

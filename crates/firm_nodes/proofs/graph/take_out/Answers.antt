@@ -1,4 +1,4 @@
-use Rattle.std.proofs.Common.{◌≤◌, ◌+◌, ◌≢◌, ◌∙◌, sym, arith, get_or}
+use Rattle.std.proofs.Common.{◌≤◌, ◌+◌, ◌∙◌, sym, arith}
 use Rattle.firm_nodes.specs.Kept.{block_numbers}
 use Rattle.firm_nodes.proofs.OrderLaws.{place, search_on, search_ends, read_block, taken_out}
 use Rattle.firm_nodes.proofs.graph.take_out.Goals as goal
@@ -24,4 +24,4 @@ returns c =
     let at = c.loop-place.place in
     taken_out ids c.remove.new.self.items c.args.block at
     (search_ends c.args.block at (block_numbers ids) c.loop-place.invariant
-        (read_block ids c.args.block at c.index.result.now c.requires c.loop-place.invariant c.index.ensures ∙ c.loop-place-test.false)) c.remove.ensures.items
+    (read_block ids c.args.block at c.index.result.now c.requires c.loop-place.invariant c.index.ensures ∙ c.loop-place-test.false)) c.remove.ensures.items

@@ -1,4 +1,4 @@
-use Rattle.std.proofs.Common.{◌≤◌, ◌-◌, length}
+use Rattle.std.proofs.Common.{◌≤◌, ◌-◌}
 use Rattle.firm_nodes.specs.Kept.{block_numbers}
 use Rattle.firm_nodes.proofs.OrderLaws.{place}
 use Rattle.firm_nodes.proofs.graph.take_out.Given as goal

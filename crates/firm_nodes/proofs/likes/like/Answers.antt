@@ -15,10 +15,10 @@ pub returns-in-Some-clause-none : goal.returns-in-Some-clause-none
 returns-in-Some-clause-none c =
     then_none c.like_among.result c.like_among.ensures.none
     (λ none pure m like. no_like_user c.args.nodes.now c.args.op c.args.block (numbers c.args.operands.now) c.users.result.now c.in-Some.first.now.number c.users.ensures
-        (first_is c.args.operands.now c.in-Some.first.now c.in-Some.ensures.value).0 (first_is c.args.operands.now c.in-Some.first.now c.in-Some.ensures.value).1 none m like)
+    (first_is c.args.operands.now c.in-Some.first.now c.in-Some.ensures.value).0 (first_is c.args.operands.now c.in-Some.first.now c.in-Some.ensures.value).1 none m like)
 
 pub returns-in-None-clause-none : goal.returns-in-None-clause-none
 returns-in-None-clause-none c =
     then_none c.like_in.result c.like_in.ensures.none
     (λ none pure m like. no_like_member c.args.nodes.now c.args.op c.args.block (numbers c.args.operands.now) c.members.result.now c.members.ensures
-        (none_is c.args.operands.now c.in-None.ensures.value) none m like)
+    (none_is c.args.operands.now c.in-None.ensures.value) none m like)

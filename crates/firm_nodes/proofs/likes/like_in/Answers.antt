@@ -1,5 +1,4 @@
-use Rattle.std.proofs.Common.{◌<◌, [], ◌∙◌, length, sym, subst, arith, get_or}
-use Rattle.firm_rules.specs.declared.node.NodeId.{NodeId}
+use Rattle.std.proofs.Common.{[], subst, arith, get_or}
 use Rattle.firm_tables.specs.Nodes.{numbers, IsLike}
 use Rattle.firm_tables.proofs.NodeLaws.{refuses}
 use Rattle.firm_tables.proofs.MemberLaws.{number_at}
@@ -17,4 +16,4 @@ loop-node-preserved c =
     let at = c.loop-node.node-index in
     none_more (λ i. IsLike nodes c.args.op c.args.block [] (get_or (numbers list) i 0)) at c.loop-node.invariant
     (λ like. refuses c.is_like.result c.if-is_like.false c.is_like.ensures
-        (subst (λ n. IsLike nodes c.args.op c.args.block [] n) (number_at list at (record { number = 0 }) c.loop-node-test.true) like))
+    (subst (λ n. IsLike nodes c.args.op c.args.block [] n) (number_at list at (record { number = 0 }) c.loop-node-test.true) like))
