@@ -1,5 +1,5 @@
 -- What each call makes of a graph.
-use Rattle.std.specs.Prelude.{◌≡◌, ◌==◌, ℕ, suc, Bool, true, false, ◌&&◌, List, [], ◌∷◌, ◌++◌, length, map, option_map, Option, Some, None, if◌then◌else◌}
+use Rattle.std.specs.Prelude.{◌≡◌, ◌==◌, ℕ, suc, Bool, true, false, List, [], ◌∷◌, ◌++◌, length, map, option_map, Option, Some, None, if◌then◌else◌}
 use Rattle.std.specs.List.{remove, range_with_len}
 use Rattle.firm_uses.specs.Counts.{times}
 use Rattle.firm_rules.specs.declared.node.NodeOp.{NodeOp}
@@ -8,8 +8,8 @@ use Rattle.firm_rules.specs.declared.node.FirmEnd.{FirmEnd}
 use Rattle.firm_rules.specs.declared.node.FirmEnd.TheVariants.{Branch}
 use Rattle.firm_rules.specs.Graphs.{FirmNode, Firm, is_pure}
 use Rattle.firm_rules.specs.Lookups.{rank, end_of, preds_of, targets}
-use Rattle.firm_rules.specs.Rules.{is_phi, uses}
-use Rattle.firm_tables.specs.Nodes.{node_of, made, stands_in, IsLike, with_operands, without, replaced}
+use Rattle.firm_rules.specs.Rules.{uses}
+use Rattle.firm_tables.specs.Nodes.{node_of, made, IsLike, with_operands, without, without_operand, replaced}
 use Rattle.firm_tables.specs.Blocks.{new_block, with_preds, with_end, sealed_at, linked, renamed_block}
 
 -- ---- what a call asks
@@ -96,10 +96,6 @@ abbrev pub last_place : ℕ → List ℕ → Option ℕ
 last_place b [] = None
 last_place b (pred ∷ preds) = later_place (pred == b) (last_place b preds)
 
--- a Phi of the block loses the operand at the place
-abbrev pub without_operand : ℕ → ℕ → FirmNode → FirmNode
-without_operand b place node = if stands_in node b && is_phi node.op then record node { operands = remove node.operands place } else node
-
 abbrev pub without_pred : Firm → ℕ → Option ℕ → Firm
 without_pred g to None = g
 without_pred g to (Some place) = record g {
@@ -121,19 +117,25 @@ abbrev pub without_one : List ℕ → ℕ → List ℕ
 without_one [] x = []
 without_one (y ∷ ys) x = if y == x then ys else y ∷ without_one ys x
 
+-- the same for a number that there may be
+abbrev pub without_some : List ℕ → Option ℕ → List ℕ
+without_some list None = list
+without_some list (Some x) = without_one list x
+
 -- and without each of these
 abbrev pub without_all : List ℕ → List ℕ → List ℕ
 without_all list [] = list
 without_all list (x ∷ xs) = without_all (without_one list x) xs
 
+abbrev pub is_zero : NodeOp → Bool
+is_zero (Const n) = n == 0
+is_zero op = false
+
 -- an end that always goes to its second target
-abbrev pub never_first : Firm → Option FirmEnd → Bool
-never_first g (Some (Branch n first second)) = is_zero (node_of g.nodes n.number).op where
-  is_zero : NodeOp → Bool
-  is_zero (Const n) = n == 0
-  is_zero op = false
-never_first g end = false
+abbrev pub never_first : List FirmNode → Option FirmEnd → Bool
+never_first nodes (Some (Branch n first second)) = is_zero (node_of nodes n.number).op
+never_first nodes end = false
 
 -- The block has another end, or none. A target that it no longer has loses it as a predecessor.
 abbrev pub end_changed : Firm → ℕ → Option FirmEnd → Firm
-end_changed g b end = unlinked (never_first g (end_of g b)) b (ends_with g b end) (without_all (targets (end_of g b)) (targets end))
+end_changed g b end = unlinked (never_first g.nodes (end_of g b)) b (ends_with g b end) (without_all (targets (end_of g b)) (targets end))

@@ -1,5 +1,5 @@
 // The graph and its calls.
-ghost use Rattle.std.specs.Prelude.{◌≡◌, ◌≢◌, ◌==◌, ◌<◌, ℕ, List, [], ◌∷◌, true, false, length, map, if◌then◌else◌, OnOk, OnErr, IfOk, Option, Some, None, slice_get};
+ghost use Rattle.std.specs.Prelude.{◌≡◌, ◌≢◌, ◌==◌, ◌<◌, ℕ, List, [], ◌∷◌, true, false, length, map, if◌then◌else◌, OnOk, OnErr, IfOk, Option, Some, None, slice_get, ◌≤◌, IfSome};
 ghost use Rattle.std.specs.List.{remove, position_or_len};
 ghost use Rattle.firm_uses.specs.Counts.{times};
 ghost use Rattle.firm_rules.specs.declared.node.NodeOp.TheVariants.{Param, Phi};
@@ -8,9 +8,10 @@ ghost use Rattle.firm_rules.specs.Lookups.{IsBlock, first_of, preds_of, end_of, 
 ghost use Rattle.firm_rules.specs.Rules.{is_phi, uses, OperandsFit};
 ghost use Rattle.firm_tables.specs.Nodes.{numbers, stands_in, node_of};
 ghost use Rattle.firm_tables.specs.Blocks.{block_of};
-ghost use Rattle.firm_nodes.specs.Kept.{block_numbers};
-ghost use Rattle.firm_nodes.specs.Calls.{entry, IsNode, IsUnused, IsAdded, first_graph, with_block, with_node, appended, with_replaced, without_node, without_block, seals, ended};
+ghost use Rattle.firm_nodes.specs.Kept.{block_numbers, option_list};
+ghost use Rattle.firm_nodes.specs.Calls.{entry, IsNode, IsUnused, IsAdded, first_graph, with_block, with_node, appended, with_replaced, without_node, without_block, seals, ended, end_changed, unlinked};
 
+use crate::edges::{goes_second, lost_targets, place_of};
 use crate::likes::like;
 use cp_base::Name;
 use firm_rules::{BlockId, FirmEnd, Mode, NodeId, NodeOp};
@@ -151,6 +152,54 @@ impl Graph {
         self.blocks.link(block.number, end)?;
         self.blocks.set_end(block.number, Some(end));
         Ok(())
+    }
+
+    /// The block has another end. A target that is lost loses it as a predecessor.
+    pub fn change_end(&mut self, block: BlockId, end: FirmEnd)
+        requires block { IsBlock self.old block.number }
+        requires ended { end_of self.old block.number ≢ None }
+        requires targets { (to : ℕ) → times to (targets (Some end)) ≤ times to (targets (end_of self.old block.number)) }
+        requires uses { (index n : ℕ) → slice_get (uses (Some end)) index ≡ Some n → IsNode self.old n }
+        ensures { self.new ≡ end_changed self.old block.number (Some end) }
+    {
+        self.put_end(block.number, Some(end));
+    }
+
+    /// The block has no end any more. Its targets lose it as a predecessor.
+    pub fn remove_end(&mut self, block: BlockId)
+        requires block { IsBlock self.old block.number }
+        requires ended { end_of self.old block.number ≢ None }
+        ensures { self.new ≡ end_changed self.old block.number None }
+    {
+        self.put_end(block.number, None);
+    }
+
+    fn put_end(&mut self, block: usize, end: Option<FirmEnd>)
+        requires block { block < length self.old.blocks }
+        requires targets { (to : ℕ) → times to (targets end) ≤ times to (targets (end_of self.old block)) }
+        ensures { self.new ≡ end_changed self.old block end }
+    {
+        let old = self.blocks.end_of(block);
+        let earlier = goes_second(&self.nodes, old);
+        let lost = lost_targets(old, end);
+        self.blocks.set_end(block, end);
+        self.unlink(block, lost.first, earlier);
+        self.unlink(block, lost.second, earlier);
+    }
+
+    // A block loses a predecessor, and its Phis the operand for it.
+    fn unlink(&mut self, from: usize, to: Option<usize>, earlier: bool)
+        requires { IfSome to (λ block. block < length self.old.blocks) }
+        ensures { self.new ≡ unlinked earlier from self.old (option_list to) }
+    {
+        let Some(to) = to else {
+            return;
+        };
+        let Some(place) = place_of(self.blocks.preds(to), from, earlier) else {
+            return;
+        };
+        self.blocks.lose(to, place);
+        self.nodes.lose_operands(to, place);
     }
 
     /// All predecessors of the block have come.

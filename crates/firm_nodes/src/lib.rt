@@ -14,6 +14,7 @@
 // Source: Braun, Buchwald and Zwinkau, Firm: A Graph-Based Intermediate Representation (2011).
 #![tactic(auto)]
 
+mod edges;
 mod graph;
 mod likes;
 

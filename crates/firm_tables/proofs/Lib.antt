@@ -2,3 +2,4 @@ pub mod NodeLaws
 pub mod BlockLaws
 pub mod EqualLaws
 pub mod MemberLaws
+pub mod LossLaws

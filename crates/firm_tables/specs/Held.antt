@@ -1,11 +1,13 @@
 -- How nodes and blocks stand in the tables.
-use Rattle.std.specs.Prelude.{◌≡◌, ◌==◌, ℕ, suc, Bool, true, false, ◌&&◌, if◌then◌else◌, ◌<◌, ◌≤◌, List, [], ◌∷◌, ◌++◌, length, option_map, slice_index_or}
+use Rattle.std.specs.Prelude.{◌≡◌, ◌==◌, ℕ, zero, suc, Bool, true, false, ◌&&◌, if◌then◌else◌, ◌<◌, ◌≤◌, List, [], ◌∷◌, ◌++◌, length, option_map, slice_index_or}
+use Rattle.std.specs.List.{remove}
 use Rattle.cp_obstack.specs.Lists.{list_of}
 use Rattle.firm_uses.specs.Counts.{times, Used}
 use Rattle.firm_rules.specs.declared.node.NodeOp.{NodeOp}
 use Rattle.firm_rules.specs.declared.node.NodeOp.TheVariants.{Unknown}
 use Rattle.firm_uses.specs.Tables.{with_list}
 use Rattle.firm_rules.specs.Replacing.{renamed_end}
+use Rattle.firm_rules.specs.Rules.{is_phi}
 use Rattle.firm_rules.specs.Graphs.{FirmNode, FirmBlock}
 use Rattle.firm_tables.specs.declared.nodes.Stored.{Stored}
 use Rattle.firm_tables.specs.declared.blocks.StoredBlock.{StoredBlock}
@@ -50,6 +52,15 @@ pub record IsRow (row : Stored) (op : NodeOp) (b : ℕ) : Type 0 where
   pub there : row.there ≡ true
   pub op_is : row.op ≡ op
   pub block_is : row.block ≡ b
+
+-- a Phi with these operands has one less, that at the place
+abbrev pub lost_operand : NodeOp → ℕ → List ℕ → List ℕ
+lost_operand op place list = if is_phi op then remove list place else list
+
+-- so it has where it stands among some nodes, so often
+abbrev pub lost_times : ℕ → NodeOp → ℕ → List ℕ → List ℕ
+lost_times zero op place list = list
+lost_times (suc count) op place list = lost_operand op place list
 
 -- each block lists the nodes that are there in it, each once
 abbrev pub AreMembers : List Stored → List (List ℕ) → Type 0

@@ -1,9 +1,11 @@
 -- Changes of the list of a graph's nodes, each at its number.
-use Rattle.std.specs.Prelude.{◌≡◌, ℕ, ◌==◌, Bool, true, false, ◌&&◌, List, [], map, slice_index_or, slice_set}
+use Rattle.std.specs.Prelude.{◌≡◌, ℕ, ◌==◌, Bool, true, false, ◌&&◌, List, [], map, if◌then◌else◌, slice_index_or, slice_set}
+use Rattle.std.specs.List.{remove}
 use Rattle.firm_rules.specs.declared.node.NodeId.{NodeId}
 use Rattle.firm_rules.specs.declared.node.NodeOp.{NodeOp}
 use Rattle.firm_rules.specs.declared.node.NodeOp.TheVariants.{Unknown}
 use Rattle.firm_rules.specs.Graphs.{FirmNode}
+use Rattle.firm_rules.specs.Rules.{is_phi}
 use Rattle.firm_uses.specs.Counts.{renamed}
 
 -- what stands at a number at which there was never a node
@@ -42,6 +44,10 @@ gone node = record node { operands = []; there = false }
 
 abbrev pub without : List FirmNode → ℕ → List FirmNode
 without nodes n = slice_set nodes n (gone (node_of nodes n))
+
+-- a Phi of the block has one operand less, that at the place
+abbrev pub without_operand : ℕ → ℕ → FirmNode → FirmNode
+without_operand b place node = if stands_in node b && is_phi node.op then record node { operands = remove node.operands place } else node
 
 -- `to` stands among the operands, and as what is now in the node's place, where `old` stood
 abbrev pub renamed_node : ℕ → ℕ → FirmNode → FirmNode

@@ -1,9 +1,12 @@
 // The nodes by their numbers, with who uses them.
-ghost use Rattle.std.specs.Prelude.{◌≡◌, ◌≢◌, ◌<◌, [], ◌∷◌, ◌++◌, ℕ, true, MatchBool, length, map, if◌then◌else◌, slice_index, OnOk, OnErr, IfOk};
+ghost use Rattle.std.specs.Prelude.{◌≡◌, ◌≢◌, ◌<◌, ◌≤◌, [], ◌∷◌, ◌++◌, ℕ, true, MatchBool, length, map, if◌then◌else◌, slice_index, slice_index_or, OnOk, OnErr, IfOk};
 ghost use Rattle.std.specs.List.{remove};
 ghost use Rattle.firm_uses.specs.Counts.{times};
-ghost use Rattle.firm_tables.specs.Held.{IsRow};
-ghost use Rattle.firm_tables.specs.Nodes.{numbers, stands_in, IsLike, node_of, made, with_operands, without, renamed_node, replaced};
+ghost use Rattle.cp_obstack.specs.Lists.{list_of};
+ghost use Rattle.firm_uses.specs.Tables.{with_list};
+ghost use Rattle.firm_rules.specs.Rules.{is_phi as op_is_phi};
+ghost use Rattle.firm_tables.specs.Held.{no_row, lost_operand, lost_times, Covers, IsRow};
+ghost use Rattle.firm_tables.specs.Nodes.{numbers, stands_in, IsLike, node_of, made, with_operands, without, without_operand, renamed_node, replaced};
 
 use crate::members::Members;
 use crate::uses::{be_own, enter};
@@ -180,6 +183,18 @@ impl Nodes {
         self.operands.remove(number, index);
     }
 
+    /// Each Phi of the block has one operand less, that at the place, where it has one there.
+    pub fn lose_operands(&mut self, block: usize, place: usize)
+        ensures { self.new ≡ map (without_operand block place) self.old }
+    {
+        lose_at(
+            &mut self.operands,
+            &self.rows,
+            self.members.list(block),
+            place,
+        );
+    }
+
     /// The node is gone.
     pub fn remove(&mut self, number: usize)
         requires { (node_of self.old number).there ≡ true }
@@ -221,6 +236,40 @@ impl Nodes {
         let _ = self.currents.replace(old, to);
         Ok(())
     }
+}
+
+// Each Phi among the nodes has one operand less.
+fn lose_at(operands: &mut Uses, rows: &[Stored], nodes: &[NodeId], place: usize)
+    requires covers { Covers (length rows.now) operands.old }
+    requires there { (index : ℕ) → index < length nodes.now → slice_index (numbers nodes.now) index < length rows.now }
+    requires once { (n : ℕ) → times n (numbers nodes.now) ≤ 1 }
+    ensures covers { Covers (length rows.now) operands.new }
+    ensures lists { (n : ℕ) → list_of operands.new.uses n
+        ≡ lost_times (times n (numbers nodes.now)) (slice_index_or rows.now n no_row).op place (list_of operands.old.uses n) }
+{
+    for node in nodes {
+        lose_one(operands, rows[node.number].op, node.number, place);
+    }
+}
+
+// If it is a Phi, it has one operand less.
+fn lose_one(operands: &mut Uses, op: NodeOp, node: usize, place: usize)
+    requires { node < length operands.old.uses }
+    ensures uses { operands.new.uses ≡ with_list operands.old.uses node (lost_operand op place (list_of operands.old.uses node)) }
+    ensures loads { length operands.new.loads ≡ length operands.old.loads }
+{
+    if !is_phi(op) {
+        return;
+    }
+    if place < operands.list(node).len() {
+        operands.remove(node, place);
+    }
+}
+
+fn is_phi(op: NodeOp) -> bool
+    ensures { result ≡ op_is_phi op }
+{
+    matches!(op, NodeOp::Phi(_))
 }
 
 // The row is of a node that is there in the block and has the operation.
