@@ -22,12 +22,12 @@ block_within order blocks b k h = subst (λ x. x < length blocks) (place_is b or
 pub block_there : (g now : Firm) (b : ℕ) → g ≡ now → IsKept g.order g.blocks → IsBlock now b → b < length g.blocks
 block_there g now b v k h = block_within g.order g.blocks b k (subst (λ x. IsBlock x b) (sym v) h)
 
-end_read : (blocks : List FirmBlock) (b : ℕ) → (block_of blocks b).end ≡ unwrap_or (option_map (λ block. block.end) (slice_get blocks b)) None
+pub end_read : (blocks : List FirmBlock) (b : ℕ) → (block_of blocks b).end ≡ unwrap_or (option_map (λ block. block.end) (slice_get blocks b)) None
 end_read [] b = refl
 end_read (x ∷ blocks) zero = refl
 end_read (x ∷ blocks) (suc b) = end_read blocks b
 
-preds_read : (blocks : List FirmBlock) (b : ℕ) → (block_of blocks b).preds ≡ unwrap_or (option_map (λ block. block.preds) (slice_get blocks b)) []
+pub preds_read : (blocks : List FirmBlock) (b : ℕ) → (block_of blocks b).preds ≡ unwrap_or (option_map (λ block. block.preds) (slice_get blocks b)) []
 preds_read [] b = refl
 preds_read (x ∷ blocks) zero = refl
 preds_read (x ∷ blocks) (suc b) = preds_read blocks b

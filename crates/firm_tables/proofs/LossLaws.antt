@@ -1,5 +1,5 @@
 -- Operands that Phis lose.
-use Rattle.std.proofs.Common.{◌≡◌, ◌≢◌, ◌==◌, ℕ, zero, suc, ◌+◌, ◌<◌, ◌≤◌, Bool, true, false, ◌&&◌, not, List, [], ◌∷◌, length, map, take, get_or, set, refl, sym, ap, ap₂, ◌∙◌, arith, subst, if◌then◌else◌, inl, inr}
+use Rattle.std.proofs.Common.{◌≡◌, ℕ, zero, suc, ◌+◌, ◌<◌, ◌≤◌, Bool, true, false, ◌&&◌, List, [], ◌∷◌, length, map, take, get_or, refl, sym, ap, ap₂, ◌∙◌, arith, subst, if◌then◌else◌, inl, inr}
 use Rattle.std.proofs.lemmas.Bool.{cases_eq, cases_lt}
 use Rattle.std.proofs.lemmas.List.{get_or-set_same, get_or-set_other, set-get_or, take_all}
 use Rattle.std.proofs.Math.Numerals.{suc-eq-add-one}
@@ -12,7 +12,7 @@ use Rattle.firm_rules.specs.declared.node.NodeOp.{NodeOp}
 use Rattle.firm_rules.specs.Graphs.{FirmNode}
 use Rattle.firm_rules.specs.Rules.{is_phi}
 use Rattle.firm_tables.specs.declared.nodes.Stored.{Stored}
-use Rattle.firm_tables.specs.Nodes.{stands_in, without_operand}
+use Rattle.firm_tables.specs.Nodes.{without_operand}
 use Rattle.firm_tables.specs.Held.{node_seen, nodes_from, no_row, is_in, lost_operand, lost_times, AreMembers, Covers, AreHeld}
 use Rattle.firm_tables.proofs.MemberLaws.{count, past_rows}
 

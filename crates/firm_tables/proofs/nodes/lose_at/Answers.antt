@@ -1,13 +1,11 @@
-use Rattle.std.proofs.Common.{rules, ◌≡◌, ◌<◌, ◌∙◌, sym, ap, ap₂, subst, length, false, arith, get_or}
+use Rattle.std.proofs.Common.{rules, ◌≡◌, ◌<◌, sym, ap, length, false, arith, get_or}
 use Rattle.std.proofs.lemmas.List.{get_or_default}
 use Rattle.firm_rules.specs.declared.node.NodeOp.TheVariants.{Start}
-use Rattle.cp_obstack.specs.Lists.{list_of}
-use Rattle.firm_uses.specs.Tables.{with_list}
 use Rattle.firm_tables.specs.declared.nodes.Stored.{Stored}
 use Rattle.firm_tables.specs.Nodes.{numbers}
-use Rattle.firm_tables.specs.Held.{no_row, lost_operand}
+use Rattle.firm_tables.specs.Held.{no_row}
 use Rattle.firm_tables.proofs.MemberLaws.{number_at, numbers_long}
-use Rattle.firm_tables.proofs.NodeLaws.{covers_set, row_is}
+use Rattle.firm_tables.proofs.NodeLaws.{covers_set}
 use Rattle.firm_tables.proofs.LossLaws.{loss_turn, loss_is}
 use Rattle.firm_tables.proofs.nodes.lose_at.Goals as goal
 

@@ -1,4 +1,4 @@
-use Rattle.std.proofs.Common.{◌≡◌, ◌<◌, ◌∙◌, List, ℕ, sym, ap, subst, length, arith, get_or}
+use Rattle.std.proofs.Common.{◌≡◌, List, ℕ, ap, subst, length, arith, get_or}
 use Rattle.cp_obstack.specs.Lists.{list_of}
 use Rattle.firm_uses.specs.Counts.{times}
 use Rattle.firm_tables.specs.declared.nodes.Stored.{Stored}
