@@ -1,4 +1,4 @@
 mod HeldLaws
-mod CountLaws
-mod EditLaws
-mod TieLaws
+pub mod CountLaws
+pub mod EditLaws
+pub mod TieLaws

@@ -57,6 +57,20 @@ impl Uses {
         self.users.add()
     }
 
+    /// How many users there are.
+    pub fn user_count(&self) -> usize
+        ensures { result ≡ length self.now.uses }
+    {
+        self.uses.len()
+    }
+
+    /// How many can be used.
+    pub fn used_count(&self) -> usize
+        ensures { result ≡ length self.now.loads }
+    {
+        self.users.len()
+    }
+
     /// What the user uses.
     pub fn list(&self, user: usize) -> &[usize]
         requires { user < length self.now.uses }

@@ -1,0 +1,4 @@
+pub mod OrderLaws
+pub mod KeptLaws
+pub mod LikeLaws
+pub mod EdgeLaws

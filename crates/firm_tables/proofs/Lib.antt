@@ -1,0 +1,5 @@
+pub mod NodeLaws
+pub mod BlockLaws
+pub mod EqualLaws
+pub mod MemberLaws
+pub mod LossLaws
