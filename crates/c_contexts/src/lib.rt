@@ -1,13 +1,13 @@
-// What nodes of a syntax tree stand in: names that are called, and specs in front of functions.
+// Which nodes of a syntax tree are called, and which specs stand before functions.
 //
-// In comes the table of a syntax tree, with what its nodes declare. Out go, for each node, whether it is called if it is the
-// name of a function, and whether one of the names behind it is a function's if it is specs.
+// In comes the table of a syntax tree, with what its nodes declare. Out goes, for each node, whether it is what a call calls,
+// parentheses aside; and whether a function is declared behind it as its specs.
 //
-// The idea: a node in parentheses is called where these are, and parents come behind their kids, so one pass from the last
-// node to the first is enough. For specs, each name of a function notes the specs that stand before it.
+// The idea: a node in parentheses is called where these are, so one pass from the last node to the first, parents before their
+// kids, is enough. For specs, one pass over the names of functions marks the specs that stand before each.
 //
-// The theorem: each answer is that of the definition in `c_typing`, for every tree. `called_nodes`: `is_called`.
-// `function_specs`: `stand_before_function`.
+// The theorem: each answer is that of the definition in `c_typing`. `called_nodes`: `is_called`, for every tree.
+// `function_specs`: `stand_before_function`, for every tree that some tokens derive.
 //
 // `calls` has the names that are called, and `functions` the specs.
 //

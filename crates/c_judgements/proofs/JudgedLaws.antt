@@ -10,7 +10,7 @@ use Rattle.c_types.specs.declared.tree.Cell.{Cell}
 use Rattle.c_typing.specs.Judgements as rules
 use Rattle.c_typing.specs.Statements as statements
 use Rattle.c_typing.specs.Judgements.{Judgement, judgement_at, waits}
-use Rattle.c_typing.specs.Types.{Field}
+use Rattle.c_typing.specs.Types.{Field, struct}
 use Rattle.c_types.specs.declared.kind.TypeId.{TypeId}
 use Rattle.c_type_ids.specs.Ids.{Known, Keeps, AreMembers}
 use Rattle.c_type_ids.proofs.IdLaws.{names_grow}
@@ -191,7 +191,7 @@ judged_grows old new g (judged.Steps ss) (rules.means (rules.steps rs)) h = step
 judged_grows old new g (judged.Expresses x) (rules.means (rules.expresses y hidden)) h = is_grows old new g x y h
 judged_grows old new g (judged.Initialized kind code cells) (rules.means (rules.initialized t ss cs)) h = (type_grows old new g kind t h.0, h.1, h.2)
 judged_grows old new g judged.Itself (rules.means rules.itself) h = tt
-judged_grows old new g judged.Struct (rules.means (rules.a_struct l)) h = tt
+judged_grows old new g (judged.Struct id) (rules.means (rules.a_struct l)) h = names_grow old new g.types g.structs id (struct l.number) h
 judged_grows old new g (judged.Enumerates w) (rules.means (rules.enumerates v)) h = h
 judged_grows old new g judged.FillsArray (rules.means rules.fills_array) h = tt
 judged_grows old new g (judged.Initial n cells) (rules.means (rules.initial count cs)) h = h
@@ -200,7 +200,7 @@ judged_grows old new g (judged.Labels w) (rules.means (rules.labels v)) h = h
 judged_grows old new g (judged.Defines f) (rules.means (rules.defines d)) h = h
 judged_grows old new g judged.BreaksRules (rules.breaks_rules f fs) h = tt
 judged_grows old new g judged.Waits waits h = tt
-judged_grows old new g judged.Taken j h = tt
+judged_grows old new g judged.Taken j h = h
 judged_grows old new g s j h = absurd h
 
 pub all_grow : (old new : Known) → Keeps old new → (slots : List Judged) (js : List Judgement) → AreJudged old slots js → AreJudged new slots js

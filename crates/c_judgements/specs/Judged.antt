@@ -4,7 +4,8 @@ use Rattle.c_types.specs.declared.tree.Cell.{Cell}
 use Rattle.c_typing.specs.Judgements as rules
 use Rattle.c_typing.specs.Judgements.{Judgement, judgement_at}
 use Rattle.c_typing.specs.Statements as statements
-use Rattle.c_type_ids.specs.Ids.{Known, AreMembers}
+use Rattle.c_typing.specs.Types.{struct}
+use Rattle.c_type_ids.specs.Ids.{Known, AreMembers, Names}
 use Rattle.c_values.specs.Typings.{Is, IsType}
 use Rattle.c_declared_types.specs.Steps.{AreSteps}
 use Rattle.c_judgements.specs.declared.judged.Judged.{Judged}
@@ -21,11 +22,22 @@ abbrev pub Are : {A : Type 0} → Option A → A → Type 0
 Are None a = Unit {0}
 Are (Some b) a = b ≡ a
 
--- it is this judgement; what was taken is not looked at any more
+-- it means something that one other node alone has as a part
+abbrev pub is_owned : Judgement → Bool
+is_owned (rules.means (rules.members fields)) = true
+is_owned (rules.means (rules.steps ss)) = true
+is_owned (rules.means (rules.expresses x hidden)) = true
+is_owned (rules.means (rules.initial count cells)) = true
+is_owned (rules.means (rules.performs ss)) = true
+is_owned (rules.means (rules.labels w)) = true
+is_owned (rules.means (rules.defines f)) = true
+is_owned j = false
+
+-- it is this judgement; of what was taken, only that it could be is known
 abbrev pub IsJudged : Known → Judged → Judgement → Type 0
 IsJudged k judged.Itself (rules.means rules.itself) = Unit {0}
 IsJudged k (judged.«Type» kind) (rules.means (rules.a_type t)) = IsType k kind t
-IsJudged k judged.Struct (rules.means (rules.a_struct l)) = Unit {0}
+IsJudged k (judged.Struct id) (rules.means (rules.a_struct l)) = Names k id (struct l.number)
 IsJudged k (judged.Members members) (rules.means (rules.members fields)) = AreMembers k members fields
 IsJudged k (judged.Enumerates w) (rules.means (rules.enumerates v)) = w ≡ v
 IsJudged k (judged.Steps ss) (rules.means (rules.steps rs)) = AreSteps k ss rs
@@ -39,7 +51,7 @@ IsJudged k (judged.Labels w) (rules.means (rules.labels v)) = w ≡ v
 IsJudged k (judged.Defines f) (rules.means (rules.defines g)) = f ≡ g
 IsJudged k judged.BreaksRules (rules.breaks_rules f fs) = Unit {0}
 IsJudged k judged.Waits rules.waits = Unit {0}
-IsJudged k judged.Taken j = Unit {0}
+IsJudged k judged.Taken j = is_owned j ≡ true
 IsJudged k s j = ⊥
 
 abbrev pub taken : Judged

@@ -1,13 +1,14 @@
 // The judgements of the nodes so far.
 ghost use Rattle.std.specs.Prelude.{◌≡◌, ◌<◌, ◌++◌, ◌∷◌, [], ℕ, List, None, OnOk, Some, MatchOption, false, true, map, get_or, is_some, length, slice_set};
 ghost use Rattle.c_types.specs.declared.tree.Cell.{Cell};
-ghost use Rattle.c_typing.specs.Types.{CType, Field};
+ghost use Rattle.c_typing.specs.Types as types;
+ghost use Rattle.c_typing.specs.Types.{CType, Field, Layout};
 ghost use Rattle.c_typing.specs.Expressions.{word_of_enumerator};
 ghost use Rattle.c_typing.specs.Declarators.{members_of};
 ghost use Rattle.c_typing.specs.Typing.{defined_in};
 ghost use Rattle.c_typing.specs.Judgements as rules;
 ghost use Rattle.c_typing.specs.Statements as statements;
-ghost use Rattle.c_type_ids.specs.Ids.{AreMembers, Known};
+ghost use Rattle.c_type_ids.specs.Ids.{AreMembers, Known, Names};
 ghost use Rattle.c_values.specs.Typings.{Is, IsType};
 ghost use Rattle.c_declared_types.specs.Steps.{AreSteps};
 ghost use Rattle.c_judgements.specs.Judged.{AreJudged, IsItem, IsJudged, IsLeft, has_cells, has_code, initial_in, initialized_in, is_filling, is_taken, taken, without_cells, without_code, wrapped};
@@ -29,8 +30,8 @@ pub enum Judged {
     Itself,
     /// Specs, their words, a name of a type.
     Type(Type),
-    /// A struct with its body, which is in the table of types.
-    Struct,
+    /// A struct with its body, which is in the table of types, by its type.
+    Struct(TypeId),
     Members(Members),
     /// The value of an enumerator.
     Enumerates(u32),
@@ -82,7 +83,8 @@ impl Judgements {
 
     /// The judgement of the next node.
     pub fn push(&mut self, judged: Judged) -> Result<(), AllocError>
-        ensures { OnOk result ((k : Known) (js : List rules.Judgement) (j : rules.Judgement) → AreJudged k self.old.slots.items js → IsJudged k judged j →
+        ensures slots { OnOk result (self.new.slots.items ≡ self.old.slots.items ++ judged ∷ []) }
+        ensures are { OnOk result ((k : Known) (js : List rules.Judgement) (j : rules.Judgement) → AreJudged k self.old.slots.items js → IsJudged k judged j →
             AreJudged k self.new.slots.items (js ++ j ∷ [])) }
     {
         self.slots.push(judged)?;
@@ -92,7 +94,6 @@ impl Judgements {
     /// The type that specs, a declarator, a parameter or a name of a type has.
     pub fn type_at(&self, node: usize) -> Option<Type>
         requires within { node < length self.now.slots.items }
-        requires there { is_taken (get_or self.now.slots.items node taken) ≡ false }
         ensures { (k : Known) (js : List rules.Judgement) → AreJudged k self.now.slots.items js →
             MatchOption result (rules.type_at js node ≡ None) (λ kind. (t : CType) × (rules.type_at js node ≡ Some t) × IsType k kind t) }
     {
@@ -189,10 +190,22 @@ impl Judgements {
         }
     }
 
+    /// The type of a struct with its body.
+    pub fn struct_at(&self, node: usize) -> Option<TypeId>
+        requires within { node < length self.now.slots.items }
+        ensures { (k : Known) (js : List rules.Judgement) → AreJudged k self.now.slots.items js →
+            MatchOption result (rules.layout_in (rules.judgement_at js node) ≡ None)
+            (λ id. (l : Layout) × (rules.layout_in (rules.judgement_at js node) ≡ Some l) × Names k id (types.struct l.number)) }
+    {
+        match &self.slots[node] {
+            Judged::Struct(id) => Some(*id),
+            _ => None,
+        }
+    }
+
     /// The value of an enumerator.
     pub fn word_at(&self, node: usize) -> Option<u32>
         requires within { node < length self.now.slots.items }
-        requires there { is_taken (get_or self.now.slots.items node taken) ≡ false }
         ensures { (k : Known) (js : List rules.Judgement) → AreJudged k self.now.slots.items js → result ≡ word_of_enumerator (rules.judgement_at js node) }
     {
         match &self.slots[node] {
@@ -204,7 +217,6 @@ impl Judgements {
     /// The node is a string that initializes an array.
     pub fn fills_array(&self, node: usize) -> bool
         requires within { node < length self.now.slots.items }
-        requires there { is_taken (get_or self.now.slots.items node taken) ≡ false }
         ensures { (k : Known) (js : List rules.Judgement) → AreJudged k self.now.slots.items js → result ≡ is_filling (rules.judgement_at js node) }
     {
         matches!(&self.slots[node], Judged::FillsArray)

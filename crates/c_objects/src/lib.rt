@@ -4,9 +4,9 @@
 // declaration of the name that it declares, whether the object of this name is defined, and its number; the objects in their
 // order; and for each object its declarations.
 //
-// The idea: names of one text in one scope are one group, which the first of them stands for. What was declared before a name
-// tells the last one before it, which is of the same group; so the first one is found from node to node. What holds of a
-// group is noted at its first name.
+// The idea: names of one text in one scope are one group, which the first of them stands for. `Earlier` tells the last name
+// that is declared before in the same group; so the first one is found from node to node. What holds of a group stands at its
+// first name.
 //
 // The invariant: each name whose scope has begun has the first name of its group.
 //

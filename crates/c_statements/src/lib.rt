@@ -3,8 +3,8 @@
 // In come the code of expressions and statements, and what is asked of them. Out goes the code of a statement, or the first
 // fault.
 //
-// The idea: one function a row of the rules. A statement is a list of statements of the typed tree, since a declaration may be
-// none or many. What stands in a `switch` is put into groups from first to last. The labels of all `switch`es stand in one
+// The idea: one small function for each form of a statement. A statement is a list of statements of the typed tree, since a
+// declaration may be none. What stands in a `switch` is put into groups from first to last. The labels of all `switch`es stand in one
 // hashed set, each with its `switch`.
 //
 // The theorem, on each function: the answer is that of the definition in `c_typing`, or the first of its faults.
