@@ -1,8 +1,25 @@
--- What operators ask of their operands.
-use Rattle.std.specs.Prelude.{ℕ, List, Option, Some, None}
-use Rattle.c_typing.specs.Types.{CType, pointer, Layout, size_of}
+-- What operators ask of the types of their operands.
+use Rattle.std.specs.Prelude.{ℕ, List, [], Option, Some, None}
+use Rattle.c_types.specs.declared.tree.COp.{COp}
+use Rattle.c_typing.specs.Types.{IntegerType, CType, integer, pointer, common, Layout, size_of}
+use Rattle.c_typing.specs.Conversions.{Operator, signs}
 
 -- the size of what a pointer points to, 0 where it has none; of another type nothing
 abbrev pub target_size : List Layout → CType → Option ℕ
 target_size ls (pointer t) = Some (size_of ls t)
 target_size ls t = None
+
+-- an integer type
+abbrev pub integer_in : CType → Option IntegerType
+integer_in (integer k) = Some k
+integer_in t = None
+
+-- the type that two integers are converted to
+abbrev pub common_integer : CType → CType → Option IntegerType
+common_integer (integer a) (integer b) = Some (common a b)
+common_integer t u = None
+
+-- the operator on words, where it is no shift: of two integers, or of pointers, which have no sign
+abbrev pub plain_operator : Operator → CType → CType → COp
+plain_operator o (integer a) (integer b) = signs [] (common a b) o
+plain_operator o t u = o.unsigned

@@ -16,16 +16,16 @@
 // Source: C99 6.5.3 to 6.5.15, 6.5.17.
 #![tactic(auto)]
 
-//mod binary;
+mod binary;
 mod casts;
 //mod choices;
-//mod operator_codes;
-//mod operator_constants;
+mod operator_codes;
+mod operator_constants;
 mod results;
-//mod unary;
+mod unary;
 
-//pub use binary::binary_by;
+pub use binary::binary_by;
 pub use casts::cast;
 //pub use choices::{comma, condition, conditional};
-//pub use operator_codes::operator_code;
-//pub use unary::{measured_type, not_operator, sign_operator};
+pub use operator_codes::operator_code;
+pub use unary::{measured_type, not_operator, sign_operator};
