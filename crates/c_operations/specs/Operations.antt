@@ -1,8 +1,9 @@
 -- What operators ask of the types of their operands.
-use Rattle.std.specs.Prelude.{ℕ, List, [], Option, Some, None}
+use Rattle.std.specs.Prelude.{ℕ, List, [], Option, Some, None, if◌then◌else◌}
 use Rattle.c_types.specs.declared.tree.COp.{COp}
-use Rattle.c_typing.specs.Types.{IntegerType, CType, integer, pointer, common, Layout, size_of}
-use Rattle.c_typing.specs.Conversions.{Operator, signs}
+use Rattle.c_typing.specs.Types.{IntegerType, CType, integer, pointer, common, is_pointer, Layout, size_of}
+use Rattle.c_typing.specs.Judgements.{Typing}
+use Rattle.c_typing.specs.Conversions.{Operator, signs, are_comparable, pointer_choice}
 
 -- the size of what a pointer points to, 0 where it has none; of another type nothing
 abbrev pub target_size : List Layout → CType → Option ℕ
@@ -23,3 +24,10 @@ common_integer t u = None
 abbrev pub plain_operator : Operator → CType → CType → COp
 plain_operator o (integer a) (integer b) = signs [] (common a b) o
 plain_operator o t u = o.unsigned
+
+-- of the operands of `?:`, where they are no integers, `void` or structs: a pointer, or none
+abbrev pub of_pointers : List Layout → Typing → Typing → CType
+of_pointers ls x y = if is_pointer x.type then (if is_pointer y.type then pointer_choice ls x y else x.type) else y.type
+
+abbrev pub compared : List Layout → Typing → Typing → Option CType
+compared ls x y = if are_comparable x y then Some (of_pointers ls x y) else None

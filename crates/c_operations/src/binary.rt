@@ -20,7 +20,7 @@ use c_types::Expr;
 use c_values::{Class, Form, Operand, Operator, Type, Typing, both, either, result_type};
 use crate::operator_codes::{Coded, operator_code};
 use crate::operator_constants::binary_constant;
-use crate::results::type_of_result;
+use crate::results::{operand_of, type_of_result};
 use std::alloc::{AllocError, Global};
 
 /// An operator with two operands, which stands at this node.
@@ -41,16 +41,6 @@ pub fn binary_by(
 {
     let kind = binary_type(table, node, operator, operand_of(&left), operand_of(&right))?;
     Ok(binary_value(alloc, table, node, operator, kind, left, right)?)
-}
-
-/// The type and the constant of an operand.
-pub fn operand_of(typing: &Typing) -> Operand
-    ensures { result ≡ record { kind = typing.now.kind; constant = typing.now.constant } }
-{
-    Operand {
-        kind: typing.kind,
-        constant: typing.constant,
-    }
 }
 
 // The type of the result, where the operands are allowed.

@@ -18,7 +18,7 @@
 
 mod binary;
 mod casts;
-//mod choices;
+mod choices;
 mod operator_codes;
 mod operator_constants;
 mod results;
@@ -26,6 +26,6 @@ mod unary;
 
 pub use binary::binary_by;
 pub use casts::cast;
-//pub use choices::{comma, condition, conditional};
+pub use choices::{comma, condition, conditional};
 pub use operator_codes::operator_code;
 pub use unary::{measured_type, not_operator, sign_operator};

@@ -164,8 +164,8 @@ pub fn plain_operator(table: &TypeTable, operator: Operator, left: Type, right: 
     }
 }
 
-// The type that two integers are converted to.
-fn common_integer(table: &TypeTable, left: Type, right: Type) -> Option<Integer>
+/// The type that two integers are converted to.
+pub fn common_integer(table: &TypeTable, left: Type, right: Type) -> Option<Integer>
     requires left { (t : CType) × IsType table.now left t }
     requires right { (u : CType) × IsType table.now right u }
     ensures { (t u : CType) → IsType table.now left t → IsType table.now right u → option_map (λ i. integer_of i) result ≡ common_integer t u }
@@ -175,7 +175,8 @@ fn common_integer(table: &TypeTable, left: Type, right: Type) -> Option<Integer>
     Some(common(left, right))
 }
 
-fn integer_in(table: &TypeTable, kind: Type) -> Option<Integer>
+/// The type, where it is an integer type.
+pub fn integer_in(table: &TypeTable, kind: Type) -> Option<Integer>
     requires { (t : CType) × IsType table.now kind t }
     ensures { (t : CType) → IsType table.now kind t → option_map (λ i. integer_of i) result ≡ integer_in t }
 {

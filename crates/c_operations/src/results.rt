@@ -13,7 +13,7 @@ ghost use Rattle.c_answers.specs.Answers.{Settles};
 
 use c_answers::Refusal;
 use c_type_ids::{Kind, TypeTable};
-use c_values::{Form, ResultType, Shown, Type, kind_of};
+use c_values::{Form, Operand, ResultType, Shown, Type, Typing, kind_of};
 
 /// The type of the result of an operator that stands at this node, which has operands of these types.
 pub fn type_of_result(
@@ -44,5 +44,15 @@ pub fn form_of_result(table: &TypeTable, kind: Type) -> Form
     match kind_of(table, kind) {
         Shown::Kind(Kind::Struct(_)) => Form::Temporary,
         _ => Form::Value,
+    }
+}
+
+/// The type and the constant of an operand.
+pub fn operand_of(typing: &Typing) -> Operand
+    ensures { result ≡ record { kind = typing.now.kind; constant = typing.now.constant } }
+{
+    Operand {
+        kind: typing.kind,
+        constant: typing.constant,
     }
 }

@@ -17,10 +17,10 @@ ghost use Rattle.c_answers.specs.Answers.{Answers, Expresses};
 
 use c_answers::Refusal;
 use c_constants::{Constant, operated};
-use c_type_ids::{Integer, Kind, TypeTable, promoted};
+use c_type_ids::{Integer, TypeTable, promoted};
 use c_types::{COp, Expr};
-use c_values::{Class, Form, Operator, Shown, Type, Typing, binary, is_scalar, kind_of};
-use crate::operator_codes::signs;
+use c_values::{Class, Form, Operator, Type, Typing, binary, is_scalar, kind_of};
+use crate::operator_codes::{integer_in, signs};
 use std::alloc::{AllocError, Global};
 
 /// `+`, `-` or `~` of an integer. The operator has this text, and stands at this node.
@@ -36,11 +36,9 @@ pub fn sign_operator(
         Answers (Expresses table.new 0) result (expressions.sign_operator n x) }
     ensures grows { Grows table.old table.new }
 {
-    match kind_of(table, value.kind) {
-        Shown::Kind(Kind::Integer(integer)) => {
-            Ok(sign_value(alloc, table, node, text, promoted(integer), value)?)
-        }
-        _ => Err(Refusal::Broken { rule: 13, node }),
+    match integer_in(table, value.kind) {
+        Some(integer) => Ok(sign_value(alloc, table, node, text, promoted(integer), value)?),
+        None => Err(Refusal::Broken { rule: 13, node }),
     }
 }
 
