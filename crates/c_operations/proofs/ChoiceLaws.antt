@@ -1,5 +1,5 @@
 -- Conditions, and the operators `?:` and `,`.
-use Rattle.std.proofs.Common.{◌≡◌, ◌&&◌, ◌||◌, ℕ, Bool, true, false, not, List, [], ◌∷◌, Option, Some, None, refl, sym, ap, ◌∙◌, subst}
+use Rattle.std.proofs.Common.{◌≡◌, ◌&&◌, ◌||◌, ◌++◌, ℕ, Bool, true, false, not, List, [], ◌∷◌, Option, Some, None, refl, sym, ap, ◌∙◌, subst}
 use Rattle.std.specs.Prelude.{Result, Ok, Err, unwrap_or, if◌then◌else◌, ◌==◌}
 use Rattle.std.specs.Option.{is_some}
 use Rattle.std.specs.Result.{IsErrAnd}
@@ -106,12 +106,12 @@ first_besides (refusal.TooBig n size) [] j (others, h) = absurd (cc h)
 first_besides refusal.OutOfMemory [] j h = tt
 first_besides (refusal.Broken r n) (f ∷ fs) (breaks_rules g gs) (others, h) =
     let first : f ≡ rules.rule r n = cc h in
-    (_, ap (λ a. a ∷ _) first)
+    (fs ++ g ∷ gs, ap (λ a. a ∷ (fs ++ g ∷ gs)) first)
 first_besides (refusal.Broken r n) (f ∷ fs) (means m) h = h
 first_besides (refusal.Broken r n) (f ∷ fs) waits h = h
 first_besides (refusal.TooBig n size) (f ∷ fs) (breaks_rules g gs) (others, h) =
     let first : f ≡ rules.too_big n size = cc h in
-    (_, ap (λ a. a ∷ _) first)
+    (fs ++ g ∷ gs, ap (λ a. a ∷ (fs ++ g ∷ gs)) first)
 first_besides (refusal.TooBig n size) (f ∷ fs) (means m) h = h
 first_besides (refusal.TooBig n size) (f ∷ fs) waits h = h
 first_besides refusal.OutOfMemory (f ∷ fs) j h = tt
