@@ -99,19 +99,3 @@ module _ (k : Known) (js : List Judgement) (n : Node) (at : ℕ) (c x y : rules.
 pub besides_none : (k : Known) (h : ℕ) (r : Result Typing Refusal) (faults : List Fault) (j : Judgement) → faults ≡ [] → Answers (Expresses k h) r j
     → Answers (Expresses k h) r (besides faults j)
 besides_none k h r faults j none is = subst (λ fs. Answers (Expresses k h) r (besides fs j)) (sym none) is
-
-first_besides : (e : Refusal) (faults : List Fault) (j : Judgement) → IsFirst e faults → IsFirst e (faults_in (besides faults j))
-first_besides (refusal.Broken r n) [] j (others, h) = absurd (cc h)
-first_besides (refusal.TooBig n size) [] j (others, h) = absurd (cc h)
-first_besides refusal.OutOfMemory [] j h = tt
-first_besides (refusal.Broken r n) (f ∷ fs) (breaks_rules g gs) (others, h) =
-    let first : f ≡ rules.rule r n = cc h in
-    (fs ++ g ∷ gs, ap (λ a. a ∷ (fs ++ g ∷ gs)) first)
-first_besides (refusal.Broken r n) (f ∷ fs) (means m) h = h
-first_besides (refusal.Broken r n) (f ∷ fs) waits h = h
-first_besides (refusal.TooBig n size) (f ∷ fs) (breaks_rules g gs) (others, h) =
-    let first : f ≡ rules.too_big n size = cc h in
-    (fs ++ g ∷ gs, ap (λ a. a ∷ (fs ++ g ∷ gs)) first)
-first_besides (refusal.TooBig n size) (f ∷ fs) (means m) h = h
-first_besides (refusal.TooBig n size) (f ∷ fs) waits h = h
-first_besides refusal.OutOfMemory (f ∷ fs) j h = tt

@@ -18,7 +18,7 @@ use c_answers::Refusal;
 use c_type_ids::TypeTable;
 use c_types::Expr;
 use c_values::{Class, Form, Operand, Operator, Type, Typing, both, either, result_type};
-use crate::operator_codes::{Coded, operator_code};
+use crate::operator_codes::{code_of, operator_code};
 use crate::operator_constants::binary_constant;
 use crate::results::{operand_of, type_of_result};
 use std::alloc::{AllocError, Global};
@@ -105,15 +105,6 @@ fn binary_code(
     match operator.class {
         Class::AndThen => both(alloc, left.code, right.code),
         Class::OrElse => either(alloc, left.code, right.code),
-        _ => operator_code(alloc, table, operator, coded(left), coded(right)),
-    }
-}
-
-fn coded(typing: Typing) -> Coded
-    ensures { result ≡ record { kind = typing.kind; code = typing.code } }
-{
-    Coded {
-        kind: typing.kind,
-        code: typing.code,
+        _ => operator_code(alloc, table, operator, code_of(left), code_of(right)),
     }
 }

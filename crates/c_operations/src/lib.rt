@@ -27,5 +27,6 @@ mod unary;
 pub use binary::binary_by;
 pub use casts::cast;
 pub use choices::{comma, condition, conditional};
-pub use operator_codes::operator_code;
-pub use unary::{measured_type, not_operator, sign_operator};
+pub use operator_codes::{Coded, code_of, operator_code};
+pub use results::{form_of_result, operand_of, type_of_result};
+pub use unary::{measured_type, not_operator, number_of_type, sign_operator, size_of};

@@ -12,7 +12,7 @@ ghost use Rattle.c_operations.specs.Operations.{target_size, integer_in, common_
 
 use c_type_ids::{Integer, Kind, TypeTable, common, promoted, traits_of};
 use c_types::{COp, Expr};
-use c_values::{Class, Operator, Shown, Type, binary, kind_of};
+use c_values::{Class, Operator, Shown, Type, Typing, binary, kind_of};
 use std::alloc::{AllocError, Global};
 
 /// An operand by its type and its code.
@@ -20,6 +20,16 @@ use std::alloc::{AllocError, Global};
 pub struct Coded {
     pub kind: Type,
     pub code: Expr,
+}
+
+/// The type and the code of an operand.
+pub fn code_of(typing: Typing) -> Coded
+    ensures { result ≡ record { kind = typing.kind; code = typing.code } }
+{
+    Coded {
+        kind: typing.kind,
+        code: typing.code,
+    }
 }
 
 /// The code of an operator with these operands.

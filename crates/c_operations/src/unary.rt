@@ -160,7 +160,7 @@ pub fn measured_type(
     ensures grows { Grows table.old table.new }
 {
     match size_of(table, kind) {
-        Some(size) => Ok(unsigned_number(table, size)?),
+        Some(size) => Ok(number_of_type(table, Integer::UInt, size)?),
         None => Err(Refusal::Broken {
             rule: 5,
             node: operand,
@@ -168,8 +168,8 @@ pub fn measured_type(
     }
 }
 
-// The size of a type, where it has one.
-fn size_of(table: &TypeTable, kind: Type) -> Option<u32>
+/// The size of a type, where it has one.
+pub fn size_of(table: &TypeTable, kind: Type) -> Option<u32>
     requires { (t : CType) × IsType table.now kind t }
     ensures { (t : CType) (ls : List Layout) → IsType table.now kind t → AreLaid table.now ls →
         result ≡ option_map (λ (m : Measure). m.size) (measure ls t) }
@@ -181,12 +181,16 @@ fn size_of(table: &TypeTable, kind: Type) -> Option<u32>
     }
 }
 
-// A constant of type `unsigned`.
-fn unsigned_number(table: &mut TypeTable, word: u32) -> Result<Typing, AllocError>
-    ensures is { IfOk result (λ v. Is table.new v (expressions.number_of_type types.uint word)) }
+/// A constant of an integer type.
+pub fn number_of_type(
+    table: &mut TypeTable,
+    integer: Integer,
+    word: u32,
+) -> Result<Typing, AllocError>
+    ensures is { IfOk result (λ v. Is table.new v (expressions.number_of_type (integer_of integer) word)) }
     ensures grows { Grows table.old table.new }
 {
-    let kind = Type::Known(table.integer(Integer::UInt)?);
+    let kind = Type::Known(table.integer(integer)?);
     Ok(Typing {
         kind,
         form: Form::Value,

@@ -8,7 +8,7 @@ pub returns-in_default : goal.returns-in_default
 returns-in_default c =
     mapped _ _ c.operator_code.result c.operator_code.ensures λ e is o x y ls same laid h i.
     is o x.type y.type ls same laid
-    (subst (λ a. IsType c.args.table.now a x.type) (sym (ap (λ p. p.kind) c.coded.ensures)) h.type)
-    (subst (λ a. IsType c.args.table.now a y.type) (sym (ap (λ p. p.kind) c.coded-in_default.ensures)) i.type)
-    ∙ ap₂ (λ l r. operator_code ls o.class x.type y.type o l r) (ap (λ p. p.code) c.coded.ensures ∙ h.code) (ap (λ p. p.code) c.coded-in_default.ensures ∙ i.code)
+    (subst (λ a. IsType c.args.table.now a x.type) (sym (ap (λ p. p.kind) c.code_of.ensures)) h.type)
+    (subst (λ a. IsType c.args.table.now a y.type) (sym (ap (λ p. p.kind) c.code_of-in_default.ensures)) i.type)
+    ∙ ap₂ (λ l r. operator_code ls o.class x.type y.type o l r) (ap (λ p. p.code) c.code_of.ensures ∙ h.code) (ap (λ p. p.code) c.code_of-in_default.ensures ∙ i.code)
     ∙ binary_is ls c.args.operator.class x y o c.in_default.not-AndThen c.in_default.not-OrElse same.class
