@@ -16,10 +16,10 @@ ghost use Rattle.c_assignments.specs.Assignments.{struct_measure};
 use c_answers::Refusal;
 use c_constants::Constant;
 use c_operations::{form_of_result, operand_of};
-use c_type_ids::{Kind, TypeTable};
+use c_type_ids::TypeTable;
 use c_types::{Expr, Measure, TypeId};
-use c_values::{Form, Shown, Type, Typing, converted, copy, kind_of, set_local, store};
-use crate::faults::check_assignment;
+use c_values::{Form, Type, Typing, converted, copy, kind_of, set_local, store};
+use crate::faults::{check_assignment, is_struct};
 use crate::writes::access;
 use std::alloc::{AllocError, Global};
 
@@ -103,16 +103,26 @@ fn struct_measure(table: &TypeTable, kind: Type) -> Option<Measure>
     requires { (t : CType) × IsType table.now kind t }
     ensures { (ls : List Layout) (t : CType) → AreLaid table.now ls → IsType table.now kind t → result ≡ struct_measure ls t }
 {
-    match kind {
-        Type::Known(id) => match kind_of(table, kind) {
-            Shown::Kind(Kind::Struct(_)) => Some(measure(table, id)),
-            _ => None,
-        },
-        Type::Unsized(_) | Type::ToUnsized(_) => None,
+    if is_struct(kind_of(table, kind)) {
+        Some(measure_of(table, kind))
+    } else {
+        None
     }
 }
 
 // The size and the alignment of a type; of one without a size, 0 and 1.
+fn measure_of(table: &TypeTable, kind: Type) -> Measure
+    requires { (t : CType) × IsType table.now kind t }
+    ensures { (ls : List Layout) (t : CType) → AreLaid table.now ls → IsType table.now kind t →
+        result ≡ record { size = types.size_of ls t; align = types.align_of ls t } }
+{
+    match kind {
+        Type::Known(id) => measure(table, id),
+        Type::Unsized(_) => Measure { size: 0, align: 1 },
+        Type::ToUnsized(_) => Measure { size: 4, align: 4 },
+    }
+}
+
 fn measure(table: &TypeTable, id: TypeId) -> Measure
     requires { IsThere table.now.table id }
     ensures { (ls : List Layout) (t : CType) → AreLaid table.now ls → Names table.now id t →

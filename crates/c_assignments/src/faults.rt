@@ -78,16 +78,25 @@ fn check_assigned(
     ensures { (ls : List Layout) (t : CType) (y : rules.Typing) → AreLaid table.now ls → IsType table.now left t → IsOperand table.now right y →
         Allows result (faults.bad_conversion t y right_node ++ faults.big_struct ls t node) }
 {
-    if !is_assignable(table, left, right.kind, is_null(right.constant)) {
-        return Err(Refusal::Broken {
+    if is_assignable(table, left, right.kind, is_null(right.constant)) {
+        check_size(table, node, left)
+    } else {
+        Err(Refusal::Broken {
             rule: 14,
             node: right_node,
-        });
+        })
     }
-    if is_big_struct(table, left) {
-        return Err(Refusal::Broken { rule: 27, node });
+}
+
+fn check_size(table: &TypeTable, node: usize, kind: Type) -> Result<(), Refusal>
+    requires { (t : CType) × IsType table.now kind t }
+    ensures { (ls : List Layout) (t : CType) → AreLaid table.now ls → IsType table.now kind t → Allows result (faults.big_struct ls t node) }
+{
+    if is_big_struct(table, kind) {
+        Err(Refusal::Broken { rule: 27, node })
+    } else {
+        Ok(())
     }
-    Ok(())
 }
 
 // A struct of more than 1,024 bytes.
@@ -99,7 +108,8 @@ fn is_big_struct(table: &TypeTable, kind: Type) -> bool
     is_struct(kind_of(table, kind)) && size_of(table, kind).unwrap_or(0) > 1024
 }
 
-fn is_struct(shown: Shown) -> bool
+/// A struct.
+pub fn is_struct(shown: Shown) -> bool
     ensures { (k : Known) (t : CType) → ShownAs k shown t → result ≡ types.is_struct t }
 {
     matches!(shown, Shown::Kind(Kind::Struct(_)))
