@@ -4,7 +4,7 @@ use Rattle.std.specs.Prelude.{Result, Ok, Err}
 use Rattle.std.specs.Result.{IsErrAnd}
 use Rattle.c_types.specs.declared.kind.Measure.{Measure}
 use Rattle.c_types.specs.declared.tree.Expr.{Expr}
-use Rattle.c_types.specs.Forms.{set_local, store}
+use Rattle.c_types.specs.Forms.{set_local, store, copy}
 use Rattle.cp_base.specs.declared.op.Kind.{Kind}
 use Rattle.c_typing.specs.Types.{CType, struct, is_struct, Layout, size_of, align_of}
 use Rattle.c_typing.specs.Places.{Node, kid}
@@ -65,6 +65,17 @@ module _ (ls : List Layout) (x y : rules.Typing) (v : Expr) where
       by (struct n) F none apart access value = absurd (cc none)
       by t (form.InLocal k) none apart access value = absurd (apart k refl)
       by t F none apart access value = ap₂ (λ b p. store b p v) access place ∙ ap (λ e. store (access_of t) x.code e) value
+
+pub copied : (ls : List Layout) (x y : rules.Typing) (m : Measure) (to from : Expr) → Some m ≡ struct_measure ls x.type → to ≡ x.code → from ≡ y.code
+    → copy m.size m.align to from ≡ assigned_code ls x y x.type x.form
+copied ls x y m to from found left right = by x.type refl found
+  where
+    by : (t : CType) → x.type ≡ t → Some m ≡ struct_measure ls t → copy m.size m.align to from ≡ assigned_code ls x y t x.form
+    by (struct k) e found =
+        let same : m ≡ record { size = size_of ls (struct k); align = align_of ls (struct k) } = cc found in
+        ap₂ (λ a b. copy m.size m.align a b) left right ∙ ap (λ (q : Measure). copy q.size q.align x.code y.code) same
+        ∙ ap (λ t. copy (size_of ls t) (align_of ls t) x.code y.code) (sym e)
+    by t e found = absurd (cc found)
 
 -- ---- the answer
 
