@@ -1,9 +1,9 @@
 -- Casts.
-use Rattle.std.proofs.Common.{◌≡◌, ◌≢◌, ℕ, Bool, true, false, refl, sym, ap, ◌∙◌, subst}
-use Rattle.std.specs.Prelude.{Result, Ok, Err}
+use Rattle.std.proofs.Common.{◌≡◌, ℕ, true, false, refl, subst}
+use Rattle.std.specs.Prelude.{Ok, Err}
 use Rattle.std.proofs.lemmas.Bool.{false≢true}
 use Rattle.c_types.specs.declared.tree.Expr.{Expr}
-use Rattle.c_typing.specs.Types.{CType, void, integer, pointer, array, unsized, struct, function}
+use Rattle.c_typing.specs.Types.{CType, struct}
 use Rattle.c_typing.specs.Places.{Node}
 use Rattle.c_typing.specs.Judgements as rules
 use Rattle.c_typing.specs.Judgements.{expresses}

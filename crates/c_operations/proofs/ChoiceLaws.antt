@@ -1,11 +1,11 @@
 -- Conditions, and the operators `?:` and `,`.
-use Rattle.std.proofs.Common.{◌≡◌, ◌&&◌, ◌||◌, ◌++◌, ℕ, Bool, true, false, not, List, [], ◌∷◌, Option, Some, None, refl, sym, ap, ◌∙◌, subst}
-use Rattle.std.specs.Prelude.{Result, Ok, Err, unwrap_or, if◌then◌else◌, ◌==◌}
+use Rattle.std.proofs.Common.{◌≡◌, ◌&&◌, ◌||◌, ℕ, Bool, true, false, List, [], Some, None, refl, sym, ap, ◌∙◌, subst}
+use Rattle.std.specs.Prelude.{Result, Ok, unwrap_or, if◌then◌else◌}
 use Rattle.std.specs.Option.{is_some}
 use Rattle.std.specs.Result.{IsErrAnd}
 use Rattle.std.proofs.lemmas.Bool.{false≢true}
 use Rattle.c_types.specs.Forms.{choose, seq}
-use Rattle.c_typing.specs.Types.{IntegerType, CType, integer, void, struct, common, same, is_void, is_struct, is_pointer, is_scalar, Layout}
+use Rattle.c_typing.specs.Types.{IntegerType, CType, integer, void, struct, common, same, is_void, is_struct, is_pointer, Layout}
 use Rattle.c_typing.specs.Places.{Node}
 use Rattle.c_typing.specs.Judgements as rules
 use Rattle.c_typing.specs.Judgements.{Judgement, Fault, means, breaks_rules, waits, expresses, layouts, besides, faults_in}
@@ -17,7 +17,6 @@ use Rattle.c_type_ids.specs.Ids.{Known}
 use Rattle.c_values.specs.declared.typings.Typing.{Typing}
 use Rattle.c_values.specs.Typings.{Is}
 use Rattle.c_answers.specs.declared.refusal.Refusal.{Refusal}
-use Rattle.c_answers.specs.declared.refusal.Refusal.TheVariants as refusal
 use Rattle.c_answers.specs.Answers.{Answers, Expresses, IsFirst}
 use Rattle.c_answers.proofs.AnswerLaws.{answers_means}
 use Rattle.c_operations.specs.Operations.{common_integer, compared, of_pointers}

@@ -1,7 +1,5 @@
 -- The code of operators of two operands.
-use Rattle.std.proofs.Common.{◌≡◌, ◌≢◌, ℕ, [], List, Option, Some, None, refl, sym, ap, ◌∙◌, subst}
-use Rattle.std.specs.Prelude.{Result, Ok, Err, IfOk}
-use Rattle.c_types.specs.declared.tree.COp.{COp}
+use Rattle.std.proofs.Common.{◌≡◌, ◌≢◌, ℕ, [], List, Some, None, refl, sym, ap, ◌∙◌, subst}
 use Rattle.c_types.specs.declared.tree.COp.TheVariants as op
 use Rattle.c_types.specs.declared.tree.Expr.{Expr}
 use Rattle.c_types.specs.Forms.{const, binary}
@@ -14,11 +12,6 @@ use Rattle.c_values.specs.declared.operators.Class.{Class}
 use Rattle.c_values.specs.declared.operators.Class.TheVariants as class
 use Rattle.c_values.specs.Operators.{class_of}
 use Rattle.c_operations.specs.Operations.{target_size, common_integer, plain_operator}
-
--- what is known of what is made says more of it
-pub mapped : {E : Type 0} (P Q : Expr → Type 0) (r : Result Expr E) → IfOk r P → ((e : Expr) → P e → Q e) → IfOk r Q
-mapped P Q (Ok e) p f = f e p
-mapped P Q (Err e) p f = tt
 
 -- ---- operators on words
 

@@ -1,5 +1,5 @@
 -- Operators of two operands as constants.
-use Rattle.std.proofs.Common.{◌≡◌, ◌≢◌, ℕ, List, Option, Some, None, refl, sym, ap, ap₂, ◌∙◌, subst}
+use Rattle.std.proofs.Common.{◌≡◌, ◌≢◌, ℕ, List, Some, None, refl, sym, ap, ap₂, ◌∙◌}
 use Rattle.c_types.specs.declared.tree.COp.{COp}
 use Rattle.c_typing.specs.Types.{CType, pointer, Layout, size_of}
 use Rattle.c_typing.specs.Judgements.{Constant}

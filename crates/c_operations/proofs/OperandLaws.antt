@@ -1,6 +1,6 @@
 -- What is answered where operands are allowed, and where they are not.
-use Rattle.std.proofs.Common.{◌≡◌, ℕ, Bool, true, false, List, [], ◌∷◌, refl, sym, ap, ap₂, ◌∙◌, subst}
-use Rattle.std.specs.Prelude.{Result, Ok, Err}
+use Rattle.std.proofs.Common.{◌≡◌, ℕ, Bool, true, false, List, [], refl, sym, ap, ap₂, subst}
+use Rattle.std.specs.Prelude.{Result, Ok, Err, IfOk}
 use Rattle.std.specs.Result.{IsErrAnd}
 use Rattle.c_typing.specs.Judgements as rules
 use Rattle.c_typing.specs.Types.{CType, pointer, unsized}
@@ -18,6 +18,11 @@ use Rattle.c_answers.specs.declared.refusal.Refusal.{Refusal}
 use Rattle.c_answers.specs.declared.refusal.Refusal.TheVariants as refusal
 use Rattle.c_answers.specs.Answers.{Answers, Expresses, IsFirst}
 use Rattle.c_answers.proofs.AnswerLaws.{answers_means, refuses_verdict}
+
+-- what is known of what is made says more of it
+pub mapped : {A E : Type 0} (P Q : A → Type 0) (r : Result A E) → IfOk r P → ((a : A) → P a → Q a) → IfOk r Q
+mapped P Q (Ok a) p f = f a p
+mapped P Q (Err e) p f = tt
 
 pub allowed : (k : Known) (v : Typing) (b : Bool) (n h : ℕ) (y : rules.Typing) → b ≡ true → Is k v y → Answers (Expresses k h) (Ok v) (verdict (bad_operand b n) (expresses y h))
 allowed k v b n h y e is = answers_means (Expresses k h) v (bad_operand b n) (expresses y h) (ap (λ a. bad_operand a n) e) (is, refl)

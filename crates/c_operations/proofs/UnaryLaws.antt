@@ -1,11 +1,11 @@
 -- The operators of one operand, and `sizeof`.
-use Rattle.std.proofs.Common.{◌≡◌, ◌≢◌, ℕ, Bool, true, false, not, List, [], ◌∷◌, Option, Some, None, refl, sym, ap, ◌∙◌, subst}
-use Rattle.std.specs.Prelude.{Result, Ok, Err, IfOk, option_map, unwrap_or, codes}
+use Rattle.std.proofs.Common.{◌≡◌, ℕ, true, false, not, List, [], Option, Some, None, refl, sym, ap, ◌∙◌, subst}
+use Rattle.std.specs.Prelude.{Ok, Err, option_map, unwrap_or, codes}
 use Rattle.std.specs.Option.{is_some}
 use Rattle.c_types.specs.declared.kind.Measure.{Measure}
 use Rattle.c_types.specs.declared.tree.COp.TheVariants as op
 use Rattle.c_types.specs.Forms.{const, binary}
-use Rattle.c_typing.specs.Types.{IntegerType, CType, integer, uint, int, promoted, integer_of, is_integer, is_scalar, measure, no_measure, size_of}
+use Rattle.c_typing.specs.Types.{IntegerType, CType, integer, uint, int, promoted, integer_of, is_integer, is_scalar, measure, no_measure}
 use Rattle.c_typing.specs.Places.{Node}
 use Rattle.c_typing.specs.Judgements as rules
 use Rattle.c_typing.specs.Judgements.{Judgement, layouts, expresses, number, rule}
@@ -18,7 +18,6 @@ use Rattle.c_values.specs.declared.typings.Typing.{Typing}
 use Rattle.c_values.specs.Typings.{Is}
 use Rattle.c_answers.specs.declared.refusal.Refusal.TheVariants as refusal
 use Rattle.c_answers.specs.Answers.{Answers, Expresses}
-use Rattle.c_answers.proofs.AnswerLaws.{answers_means, refuses_verdict}
 use Rattle.c_operations.specs.Operations.{integer_in}
 use Rattle.c_operations.proofs.OperandLaws.{allowed, refused}
 
@@ -90,17 +89,12 @@ unfolding sign_operator
 sign_allowed k v n at text x m j same says found is_promoted is =
     let shape = is_that x.type j found in
     let whole : sign_typing at m text x ≡ sign_typing n.id (promoted (integer_of x.type)) n.label.text x =
-        ap (λ a. sign_typing a m text x) (sym same)
-        ∙ ap (λ i. sign_typing n.id i text x) (is_promoted ∙ ap (λ t. promoted (integer_of t)) shape)
-        ∙ ap (λ s. sign_typing n.id (promoted (integer_of x.type)) s x) (sym says) in
+    ap (λ a. sign_typing a m text x) (sym same)
+    ∙ ap (λ i. sign_typing n.id i text x) (is_promoted ∙ ap (λ t. promoted (integer_of t)) shape)
+    ∙ ap (λ s. sign_typing n.id (promoted (integer_of x.type)) s x) (sym says) in
     allowed k v (is_integer x.type) n.id 0 (sign_typing n.id (promoted (integer_of x.type)) n.label.text x) (sym (ap is_integer shape)) (subst (Is k v) whole is)
 
 pub sign_refused : (k : Known) (n : Node) (at : ℕ) (x : rules.Typing) → n.id ≡ at → None ≡ integer_in x.type → Answers (Expresses k 0) (Err (refusal.Broken 13 at)) (sign_operator n x)
 unfolding sign_operator
 sign_refused k n at x same none =
     refused k (is_integer x.type) n.id at 0 (expresses (sign_typing n.id (promoted (integer_of x.type)) n.label.text x) 0) same (is_none x.type none)
-
--- what is known of what is made says more of it
-pub mapped : {E : Type 0} (P Q : Typing → Type 0) (r : Result Typing E) → IfOk r P → ((v : Typing) → P v → Q v) → IfOk r Q
-mapped P Q (Ok v) p f = f v p
-mapped P Q (Err e) p f = tt

@@ -14,13 +14,13 @@ ghost use Rattle.c_values.specs.Typings.{Is, IsType};
 ghost use Rattle.c_values.specs.Operators.{IsOperand, Same};
 ghost use Rattle.c_answers.specs.Answers.{Answers, Expresses, Settles};
 
+use crate::operator_codes::{code_of, operator_code};
+use crate::operator_constants::binary_constant;
+use crate::results::{operand_of, type_of_result};
 use c_answers::Refusal;
 use c_type_ids::TypeTable;
 use c_types::Expr;
 use c_values::{Class, Form, Operand, Operator, Type, Typing, both, either, result_type};
-use crate::operator_codes::{code_of, operator_code};
-use crate::operator_constants::binary_constant;
-use crate::results::{operand_of, type_of_result};
 use std::alloc::{AllocError, Global};
 
 /// An operator with two operands, which stands at this node.

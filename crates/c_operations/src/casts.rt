@@ -14,7 +14,9 @@ ghost use Rattle.c_answers.specs.Answers.{Answers, Expresses};
 use c_answers::Refusal;
 use c_constants::{Constant, integer_cast, pointer_cast};
 use c_type_ids::{Kind, TypeTable};
-use c_values::{Form, Shown, Type, Typing, converted, is_integer, is_scalar, kind_of, points_to_void};
+use c_values::{
+    Form, Shown, Type, Typing, converted, is_integer, is_scalar, kind_of, points_to_void,
+};
 use std::alloc::{AllocError, Global};
 
 /// A value as one of this type. The cast stands at this node.
@@ -45,13 +47,23 @@ fn is_castable(to: Shown, from: Shown) -> bool
 }
 
 // The value, where the cast is allowed.
-fn cast_value(alloc: Global, table: &TypeTable, to: Type, value: Typing) -> Result<Typing, AllocError>
+fn cast_value(
+    alloc: Global,
+    table: &TypeTable,
+    to: Type,
+    value: Typing,
+) -> Result<Typing, AllocError>
     requires to { (t : CType) × IsType table.now to t }
     requires value { (x : rules.Typing) × Is table.now value x }
     ensures { IfOk result (λ v. (t : CType) (x : rules.Typing) → IsType table.now to t → Is table.now value x →
         Is table.now v (conversions.valued t (conversions.converted_code x.type t x.code) (constants.cast_constant t x.type x.constant))) }
 {
-    let constant = cast_constant(table, kind_of(table, to), kind_of(table, value.kind), value.constant);
+    let constant = cast_constant(
+        table,
+        kind_of(table, to),
+        kind_of(table, value.kind),
+        value.constant,
+    );
     Ok(Typing {
         kind: to,
         form: Form::Value,

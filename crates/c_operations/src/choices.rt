@@ -17,15 +17,15 @@ ghost use Rattle.c_values.specs.Operators.{IsOperand, ResultIs};
 ghost use Rattle.c_answers.specs.Answers.{Allows, Answers, Expresses, Settles};
 ghost use Rattle.c_operations.specs.Operations.{common_integer, compared, of_pointers};
 
+use crate::operator_codes::common_integer;
+use crate::results::{form_of_result, operand_of, type_of_result};
 use c_answers::Refusal;
 use c_constants::{Constant, chosen_constant, is_null};
 use c_type_ids::{Kind, TypeTable};
 use c_values::{
-    Operand, ResultType, Shown, Type, Typing, are_comparable, choose, is_pointer, is_same, is_scalar,
-    kind_of, points_to_void, seq,
+    Operand, ResultType, Shown, Type, Typing, are_comparable, choose, is_pointer, is_same,
+    is_scalar, kind_of, points_to_void, seq,
 };
-use crate::operator_codes::common_integer;
-use crate::results::{form_of_result, operand_of, type_of_result};
 use std::alloc::{AllocError, Global};
 
 /// `,`: the left operand is evaluated, and the right one is the result.

@@ -11,10 +11,10 @@ ghost use Rattle.c_values.specs.Typings.{IsType};
 ghost use Rattle.c_values.specs.Operators.{IsOperand, Same};
 ghost use Rattle.c_operations.specs.Operations.{plain_operator};
 
+use crate::operator_codes::{plain_operator, shift_operator, target_size};
 use c_constants::{Constant, both_constant, either_constant, moved_down, moved_up, operated};
 use c_type_ids::TypeTable;
 use c_values::{Class, Operand, Operator};
-use crate::operator_codes::{plain_operator, shift_operator, target_size};
 
 /// What an operator with these operands is as a constant. It stands at this node.
 pub fn binary_constant(

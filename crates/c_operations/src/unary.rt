@@ -15,12 +15,12 @@ ghost use Rattle.c_type_ids.specs.Integers.{integer_of};
 ghost use Rattle.c_values.specs.Typings.{Is, IsType};
 ghost use Rattle.c_answers.specs.Answers.{Answers, Expresses};
 
+use crate::operator_codes::{integer_in, signs};
 use c_answers::Refusal;
 use c_constants::{Constant, operated};
 use c_type_ids::{Integer, TypeTable, promoted};
 use c_types::{COp, Expr};
 use c_values::{Class, Form, Operator, Type, Typing, binary, is_scalar, kind_of};
-use crate::operator_codes::{integer_in, signs};
 use std::alloc::{AllocError, Global};
 
 /// `+`, `-` or `~` of an integer. The operator has this text, and stands at this node.
@@ -149,11 +149,7 @@ fn not_value(
 }
 
 /// `sizeof`: the size of this type, which is that of the operand at this node.
-pub fn measured_type(
-    table: &mut TypeTable,
-    kind: Type,
-    operand: usize,
-) -> Result<Typing, Refusal>
+pub fn measured_type(table: &mut TypeTable, kind: Type, operand: usize) -> Result<Typing, Refusal>
     requires { (t : CType) × IsType table.old kind t }
     ensures is { (js : List rules.Judgement) (t : CType) → AreLaid table.old (layouts js) → IsType table.old kind t →
         Answers (Expresses table.new 0) result (expressions.measured_type js t operand) }

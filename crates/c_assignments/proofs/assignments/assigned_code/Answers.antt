@@ -1,5 +1,5 @@
 use Rattle.std.proofs.Common.{◌∙◌}
-use Rattle.c_operations.proofs.CodeLaws.{mapped}
+use Rattle.c_operations.proofs.OperandLaws.{mapped}
 use Rattle.c_assignments.proofs.AssignmentLaws.{copied}
 use Rattle.c_assignments.proofs.assignments.assigned_code.Goals as goal
 

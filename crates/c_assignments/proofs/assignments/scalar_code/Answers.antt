@@ -1,6 +1,6 @@
 use Rattle.std.proofs.Common.{ap, ◌∙◌}
 use Rattle.c_typing.specs.Conversions.{converted_code}
-use Rattle.c_operations.proofs.CodeLaws.{mapped}
+use Rattle.c_operations.proofs.OperandLaws.{mapped}
 use Rattle.c_assignments.proofs.AssignmentLaws.{to_local, to_memory}
 use Rattle.c_assignments.proofs.assignments.scalar_code.Goals as goal
 

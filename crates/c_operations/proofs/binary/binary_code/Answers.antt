@@ -1,7 +1,8 @@
 use Rattle.std.proofs.Common.{sym, ap, ap₂, ◌∙◌, subst}
 use Rattle.c_typing.specs.Conversions.{operator_code}
 use Rattle.c_values.specs.Typings.{IsType}
-use Rattle.c_operations.proofs.CodeLaws.{mapped, binary_is}
+use Rattle.c_operations.proofs.OperandLaws.{mapped}
+use Rattle.c_operations.proofs.CodeLaws.{binary_is}
 use Rattle.c_operations.proofs.binary.binary_code.Goals as goal
 
 pub returns-in_default : goal.returns-in_default

@@ -14,10 +14,11 @@ returns-in_err-kind-clause-is c = λ js n d x y at laid g h i.
 pub chosen-requires : goal.chosen-requires
 chosen-requires c =
     let x = c.requires.first.0 in
-    let y = c.requires.second.0 in
-    (unwrap_or (choice_type [] x y) x.type,
-    (c.in_ok-kind.ensures.is [] x y (operand_is c.args.table.now c.args.first c.operand_of.result x c.operand_of.ensures c.requires.first.1)
-    (operand_is c.args.table.now c.args.second c.operand_of-2.result y c.operand_of-2.ensures c.requires.second.1)).1)
+    let y = c.requires.second.0 in (
+      unwrap_or (choice_type [] x y) x.type,
+      (c.in_ok-kind.ensures.is [] x y (operand_is c.args.table.now c.args.first c.operand_of.result x c.operand_of.ensures c.requires.first.1)
+          (operand_is c.args.table.now c.args.second c.operand_of-2.result y c.operand_of-2.ensures c.requires.second.1)).1,
+    )
 
 pub returns-clause-is : goal.returns-clause-is
 returns-clause-is c = λ js n d x y at laid g h i.

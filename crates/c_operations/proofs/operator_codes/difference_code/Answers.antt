@@ -1,5 +1,6 @@
 use Rattle.std.proofs.Common.{sym, ◌∙◌}
-use Rattle.c_operations.proofs.CodeLaws.{mapped, difference_both, difference_left, difference_plain}
+use Rattle.c_operations.proofs.OperandLaws.{mapped}
+use Rattle.c_operations.proofs.CodeLaws.{difference_both, difference_left, difference_plain}
 use Rattle.c_operations.proofs.operator_codes.difference_code.Goals as goal
 
 pub returns-in_ok-bytes-in-Some-Some : goal.returns-in_ok-bytes-in-Some-Some

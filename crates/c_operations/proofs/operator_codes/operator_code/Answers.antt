@@ -1,5 +1,6 @@
 use Rattle.std.proofs.Common.{◌∙◌}
-use Rattle.c_operations.proofs.CodeLaws.{mapped, by_class}
+use Rattle.c_operations.proofs.OperandLaws.{mapped}
+use Rattle.c_operations.proofs.CodeLaws.{by_class}
 use Rattle.c_operations.proofs.operator_codes.operator_code.Goals as goal
 
 pub returns-in_default : goal.returns-in_default

@@ -1,4 +1,4 @@
-use Rattle.std.proofs.Common.{sym, ◌∙◌}
+use Rattle.std.proofs.Common.{◌∙◌}
 use Rattle.c_type_ids.specs.Integers.{integer_of}
 use Rattle.c_operations.proofs.CodeLaws.{of_integers, of_others}
 use Rattle.c_operations.proofs.operator_codes.plain_operator.Goals as goal

@@ -1,5 +1,6 @@
 use Rattle.std.proofs.Common.{sym, ◌∙◌}
-use Rattle.c_operations.proofs.CodeLaws.{mapped, sum_left, sum_right, sum_plain}
+use Rattle.c_operations.proofs.OperandLaws.{mapped}
+use Rattle.c_operations.proofs.CodeLaws.{sum_left, sum_right, sum_plain}
 use Rattle.c_operations.proofs.operator_codes.sum_code.Goals as goal
 
 pub returns-in_ok-bytes-in-Some-default : goal.returns-in_ok-bytes-in-Some-default

@@ -2,7 +2,8 @@ use Rattle.std.proofs.Common.{refl, subst}
 use Rattle.c_type_ids.specs.Integers.{integer_of}
 use Rattle.c_typing.specs.Types.{integer}
 use Rattle.c_values.specs.Typings.{Is}
-use Rattle.c_operations.proofs.UnaryLaws.{minus, minus_is, complement_is, mapped}
+use Rattle.c_operations.proofs.OperandLaws.{mapped}
+use Rattle.c_operations.proofs.UnaryLaws.{minus, minus_is, complement_is}
 use Rattle.c_operations.proofs.unary.sign_value.Goals as goal
 
 pub returns-in-text-clause-is : goal.returns-in-text-clause-is
