@@ -1,6 +1,6 @@
 -- Assignments by `=`.
-use Rattle.std.proofs.Common.{◌≡◌, ◌≢◌, ◌++◌, ℕ, Bool, true, false, not, List, [], Option, Some, None, refl, sym, ap, ap₂, ◌∙◌, subst}
-use Rattle.std.specs.Prelude.{Result, Ok, Err}
+use Rattle.std.proofs.Common.{◌≡◌, ◌≢◌, ◌++◌, ℕ, Bool, true, false, not, List, [], Some, None, refl, sym, ap, ap₂, ◌∙◌, subst}
+use Rattle.std.specs.Prelude.{Result, Ok}
 use Rattle.std.specs.Result.{IsErrAnd}
 use Rattle.c_types.specs.declared.kind.Measure.{Measure}
 use Rattle.c_types.specs.declared.tree.Expr.{Expr}

@@ -13,14 +13,14 @@ ghost use Rattle.c_values.specs.Typings.{Is, IsType};
 ghost use Rattle.c_answers.specs.Answers.{Answers, Expresses};
 ghost use Rattle.c_assignments.specs.Assignments.{struct_measure};
 
+use crate::faults::{check_assignment, is_struct};
+use crate::writes::access;
 use c_answers::Refusal;
 use c_constants::Constant;
 use c_operations::{form_of_result, operand_of};
 use c_type_ids::TypeTable;
 use c_types::{Expr, Measure, TypeId};
 use c_values::{Form, Type, Typing, converted, copy, kind_of, set_local, store};
-use crate::faults::{check_assignment, is_struct};
-use crate::writes::access;
 use std::alloc::{AllocError, Global};
 
 /// `=`, which stands at this node: the value of the right operand, which is at a node of its own, is written to the left one.

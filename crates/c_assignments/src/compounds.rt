@@ -13,12 +13,12 @@ ghost use Rattle.c_values.specs.Operators.{Same};
 ghost use Rattle.c_answers.specs.Answers.{Answers, Expresses};
 ghost use Rattle.c_assignments.specs.Assignments.{old_of, operation_type};
 
+use crate::faults::compound_type;
+use crate::writes::{new_value, old_value, written};
 use c_answers::Refusal;
 use c_operations::{Coded, code_of, operand_of};
 use c_type_ids::TypeTable;
 use c_values::{Operator, Type, Typing};
-use crate::faults::compound_type;
-use crate::writes::{new_value, old_value, written};
 use std::alloc::{AllocError, Global};
 
 /// An operator with an assignment, which stands at this node. The first of its hidden locals has this number.

@@ -59,10 +59,7 @@ fn is_lvalue(form: Form) -> bool
 fn is_array(shown: Shown) -> bool
     ensures { (k : Known) (t : CType) → ShownAs k shown t → result ≡ types.is_array t }
 {
-    matches!(
-        shown,
-        Shown::Kind(Kind::Array(..)) | Shown::Unsized(_)
-    )
+    matches!(shown, Shown::Kind(Kind::Array(..)) | Shown::Unsized(_))
 }
 
 // A value that the type takes; and a struct that is not too big.

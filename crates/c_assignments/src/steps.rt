@@ -14,14 +14,14 @@ ghost use Rattle.c_values.specs.Operators.{Same};
 ghost use Rattle.c_answers.specs.Answers.{Answers, Expresses};
 ghost use Rattle.c_assignments.specs.Assignments.{kept_of, operation_type};
 
+use crate::compounds::compound_by;
+use crate::faults::compound_type;
+use crate::writes::{kept_value, new_value, written_before};
 use c_answers::Refusal;
 use c_operations::{Coded, code_of, number_of_type, operand_of};
 use c_type_ids::{Integer, TypeTable};
 use c_types::COp;
 use c_values::{Class, Operator, Type, Typing};
-use crate::compounds::compound_by;
-use crate::faults::compound_type;
-use crate::writes::{kept_value, new_value, written_before};
 use std::alloc::{AllocError, Global};
 
 /// `++` or `--` before its operand. It has this text, and stands at this node; the first of its hidden locals has this number.

@@ -177,12 +177,7 @@ fn written_before_code(
 }
 
 // A value is kept in this hidden local, is the result, and something is done before.
-fn kept_before(
-    alloc: Global,
-    hidden: usize,
-    old: Expr,
-    done: Expr,
-) -> Result<Expr, AllocError>
+fn kept_before(alloc: Global, hidden: usize, old: Expr, done: Expr) -> Result<Expr, AllocError>
     ensures { IfOk result (λ e. e ≡ forms.seq (forms.set_local hidden old) (forms.seq done (forms.local hidden))) }
 {
     let kept = set_local(alloc, hidden, old)?;

@@ -17,9 +17,11 @@ compound_value-requires-clause-left c =
 
 pub compound_value-requires-clause-right : goal.compound_value-requires-clause-right
 compound_value-requires-clause-right c =
-    let y = c.requires.right.0 in
-    (y.type, subst (λ a. IsType c.compound_type.new.table a y.type) (sym (ap (λ q. q.kind) c.code_of.ensures))
-    (type_grows c.args.table.now c.compound_type.new.table c.in_ok-kind.ensures.grows c.args.right.kind y.type c.requires.right.1.type))
+    let y = c.requires.right.0 in (
+      y.type,
+      subst (λ a. IsType c.compound_type.new.table a y.type) (sym (ap (λ q. q.kind) c.code_of.ensures))
+          (type_grows c.args.table.now c.compound_type.new.table c.in_ok-kind.ensures.grows c.args.right.kind y.type c.requires.right.1.type),
+    )
 
 pub returns-clause-is : goal.returns-clause-is
 returns-clause-is c = λ p js n o x y at number laid same h i.

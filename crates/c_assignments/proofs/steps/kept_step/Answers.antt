@@ -17,9 +17,11 @@ stepped-requires-clause-value c =
     (c.requires.value.0, is_grows c.args.table.now c.compound_type.new.table c.in_ok-kind.ensures.grows c.args.value c.requires.value.0 c.requires.value.1)
 
 pub stepped-requires-clause-one : goal.stepped-requires-clause-one
-stepped-requires-clause-one c =
-    (one.type, subst (λ a. IsType c.compound_type.new.table a one.type) (sym (ap (λ q. q.kind) c.code_of.ensures))
-    (type_grows c.args.table.now c.compound_type.new.table c.in_ok-kind.ensures.grows c.args.one.kind one.type c.requires.one.type))
+stepped-requires-clause-one c = (
+  one.type,
+  subst (λ a. IsType c.compound_type.new.table a one.type) (sym (ap (λ q. q.kind) c.code_of.ensures))
+      (type_grows c.args.table.now c.compound_type.new.table c.in_ok-kind.ensures.grows c.args.one.kind one.type c.requires.one.type),
+)
 
 pub returns-clause-is : goal.returns-clause-is
 returns-clause-is c = λ p js n x at same number laid h.
