@@ -1,0 +1,2 @@
+pub mod AssignmentLaws
+pub mod CompoundLaws
