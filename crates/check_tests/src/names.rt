@@ -1,6 +1,8 @@
 // What the names of units denote and declare. The expected values are worked by hand from C99 6.2.1 to 6.2.4.
-ghost use Rattle.std.specs.Prelude.{◌≡◌, IfSome};
+ghost use Rattle.std.specs.Prelude.{◌≡◌, IfOk, IfSome};
 ghost use Rattle.c_names.specs.Denoted.{IsOfTokens};
+ghost use Rattle.c_names.specs.Names.{AreNames};
+ghost use Rattle.c_names.specs.Earlier.{AreEarlier};
 
 use c_lexer::lex;
 use c_names::{
@@ -12,7 +14,7 @@ use c_parser::parse;
 use c_syntax::{SynKind, Syntax};
 use std::alloc::{AllocError, Global};
 
-fn tree_of(alloc: Global, text: &str) -> Option<Syntax>
+pub(crate) fn tree_of(alloc: Global, text: &str) -> Option<Syntax>
     ensures { IfSome result (λ syntax. IsOfTokens syntax) }
 {
     let Ok(tokens) = lex(alloc, text.as_bytes()) else {
@@ -32,8 +34,8 @@ fn is_use(kind: SynKind) -> bool {
     matches!(kind, SynKind::Var | SynKind::Word)
 }
 
-// The nodes that declare a name, or those that use it, in order.
-fn nodes_with(
+/// The nodes that declare a name, or those that use it, in order.
+pub(crate) fn nodes_with(
     alloc: Global,
     syntax: &Syntax,
     name: &str,
@@ -148,12 +150,19 @@ fn enumerators_and_typedef_names(rt: HostRuntime) {
     );
 }
 
-fn names_of(alloc: Global, scoped: &ScopedNodes) -> Result<Vec<Option<DeclaredName>>, AllocError> {
+pub(crate) fn names_of(
+    alloc: Global,
+    scoped: &ScopedNodes,
+) -> Result<Vec<Option<DeclaredName>>, AllocError>
+    ensures { IfOk result (λ names. AreNames scoped.now names.items) }
+{
     let found = denoted(alloc, scoped)?;
     declared_names(alloc, scoped, &found)
 }
 
-fn earlier_of(alloc: Global, scoped: &ScopedNodes) -> Result<Vec<Earlier>, AllocError> {
+pub(crate) fn earlier_of(alloc: Global, scoped: &ScopedNodes) -> Result<Vec<Earlier>, AllocError>
+    ensures { IfOk result (λ earlier. AreEarlier scoped.now earlier.items) }
+{
     let found = denoted(alloc, scoped)?;
     let names = declared_names(alloc, scoped, &found)?;
     earlier_declarations(alloc, scoped, &names)
