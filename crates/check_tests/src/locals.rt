@@ -49,7 +49,8 @@ fn numbers_are(alloc: Global, text: &str, name: &str, wanted: &[Option<usize>]) 
 #[test]
 fn numbers_of_locals(rt: HostRuntime) {
     let alloc = rt.alloc();
-    let unit = "int g;int f(int p,int q){int a;static int s;{int b;}for(int c;;);return a;}int h(void){int a;return a;}";
+    let unit =
+        "int g;int f(int p,int q){int a;static int s;{int b;}for(int c;;);return a;}int h(void){int a;return a;}";
     assert!(rt; numbers_are(alloc, unit, "p", &[Some(0)]));
     assert!(rt; numbers_are(alloc, unit, "q", &[Some(1)]));
     assert!(rt; numbers_are(alloc, unit, "a", &[Some(2), Some(0)]));
@@ -118,6 +119,7 @@ fn counts_are(alloc: Global, text: &str, wanted: &[(usize, usize)]) -> bool {
 #[test]
 fn locals_of_functions(rt: HostRuntime) {
     let alloc = rt.alloc();
-    let unit = "int f(int p,int q){int a;static int s;{int b;}return a;}void g(void){}int h(int (*r)(int z)){int c;return c;}";
+    let unit =
+        "int f(int p,int q){int a;static int s;{int b;}return a;}void g(void){}int h(int (*r)(int z)){int c;return c;}";
     assert!(rt; counts_are(alloc, unit, &[(2, 2), (0, 0), (1, 1)]));
 }

@@ -5,9 +5,7 @@ ghost use Rattle.c_names.specs.Denoted.{IsOfTokens};
 use crate::names::{earlier_of, names_of, nodes_with, tree_of};
 use c_names::ScopedNodes;
 use c_nodes::Nodes;
-use c_objects::{
-    declarations, defined_objects, first_declarations, object_numbers, objects,
-};
+use c_objects::{declarations, defined_objects, first_declarations, object_numbers, objects};
 use c_syntax::Syntax;
 use std::alloc::{AllocError, Global};
 
@@ -63,7 +61,8 @@ fn numbers_are(alloc: Global, text: &str, name: &str, wanted: &[Option<usize>]) 
 #[test]
 fn numbers_of_objects(rt: HostRuntime) {
     let alloc = rt.alloc();
-    let unit = "int x;static int y;extern int z;int x=1;int f(void){static int s;extern int x;int l;return l;}extern int w=2;";
+    let unit =
+        "int x;static int y;extern int z;int x=1;int f(void){static int s;extern int x;int l;return l;}extern int w=2;";
     assert!(rt; numbers_are(alloc, unit, "x", &[Some(0), Some(0), None]));
     assert!(rt; numbers_are(alloc, unit, "y", &[Some(1)]));
     assert!(rt; numbers_are(alloc, unit, "z", &[None]));
@@ -89,8 +88,7 @@ fn is_declared_by(alloc: Global, text: &str, object: usize, name: &str) -> bool 
     ) else {
         return false;
     };
-    let (Some(node), Some(found)) = (told.objects.get(object), told.declarations.get(object))
-    else {
+    let (Some(node), Some(found)) = (told.objects.get(object), told.declarations.get(object)) else {
         return false;
     };
     matches!(declared.get(0), Some(first) if *first == *node) && are_same(found, &declared)
