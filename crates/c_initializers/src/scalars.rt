@@ -1,5 +1,5 @@
 // Scalars (C99 6.7.8, 4 and 11).
-ghost use Rattle.std.specs.Prelude.{◌≡◌, ◌++◌, ◌∷◌, [], List, true, if◌then◌else◌};
+ghost use Rattle.std.specs.Prelude.{◌≡◌, ◌≢◌, ◌++◌, ◌∷◌, [], Err, List, true, if◌then◌else◌};
 ghost use Rattle.c_typing.specs.Types as types;
 ghost use Rattle.c_typing.specs.Types.{Layout};
 ghost use Rattle.c_typing.specs.Judgements as rules;
@@ -28,7 +28,8 @@ pub fn check_scalar(
 ) -> Result<(), Refusal>
     requires scalar { (t : types.CType) × Names table.now scalar t }
     requires value { (x : rules.Typing) × IsOperand table.now value x }
-    ensures { (t : types.CType) (x : rules.Typing) → Names table.now scalar t → IsOperand table.now value x →
+    ensures decides { result ≢ Err Refusal.OutOfMemory }
+    ensures is { (t : types.CType) (x : rules.Typing) → Names table.now scalar t → IsOperand table.now value x →
         Allows result (faults.bad_conversion t x node ++ (if is_static then faults.not_constant_for t x.constant node ++ faults.out_of_range x.constant else [])) }
 {
     let is_null = is_null(value.constant);
@@ -43,7 +44,8 @@ pub fn check_scalar(
 
 // It is a constant for a scalar of this kind, with a value.
 fn check_constant(scalar: Kind, constant: Constant, node: usize) -> Result<(), Refusal>
-    ensures { (k : Known) (t : types.CType) (c : rules.Constant) → Shows k scalar t → constant_of constant ≡ c →
+    ensures decides { result ≢ Err Refusal.OutOfMemory }
+    ensures is { (k : Known) (t : types.CType) (c : rules.Constant) → Shows k scalar t → constant_of constant ≡ c →
         Allows result (faults.not_constant_for t c node ++ faults.out_of_range c) }
 {
     if !is_constant_for(scalar, constant) {

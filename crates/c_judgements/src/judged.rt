@@ -1,5 +1,5 @@
 // The judgements of the nodes so far.
-ghost use Rattle.std.specs.Prelude.{◌≡◌, ◌<◌, ◌++◌, ◌∷◌, [], ℕ, List, None, OnOk, Some, MatchOption, false, true, map, get_or, is_some, length, slice_set};
+ghost use Rattle.std.specs.Prelude.{◌≡◌, ◌<◌, ◌++◌, ◌∷◌, [], ℕ, List, None, OnErr, OnOk, Some, MatchOption, false, true, map, get_or, is_some, length, slice_set};
 ghost use Rattle.c_types.specs.declared.tree.Cell.{Cell};
 ghost use Rattle.c_typing.specs.Types as types;
 ghost use Rattle.c_typing.specs.Types.{CType, Field, Layout};
@@ -84,6 +84,7 @@ impl Judgements {
     /// The judgement of the next node.
     pub fn push(&mut self, judged: Judged) -> Result<(), AllocError>
         ensures slots { OnOk result (self.new.slots.items ≡ self.old.slots.items ++ judged ∷ []) }
+        ensures err { OnErr result (self.new.slots.items ≡ self.old.slots.items) }
         ensures are { OnOk result ((k : Known) (js : List rules.Judgement) (j : rules.Judgement) → AreJudged k self.old.slots.items js → IsJudged k judged j →
             AreJudged k self.new.slots.items (js ++ j ∷ [])) }
     {

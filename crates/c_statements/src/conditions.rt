@@ -1,5 +1,5 @@
-// What is asked of conditions and jumps.
-ghost use Rattle.std.specs.Prelude.{◌≡◌};
+// What is asked of the expression of a `switch`, and of jumps.
+ghost use Rattle.std.specs.Prelude.{◌≡◌, ◌≢◌, Err};
 ghost use Rattle.c_typing.specs.Types as types;
 ghost use Rattle.c_typing.specs.Rules as faults;
 ghost use Rattle.c_values.specs.Typings.{IsType};
@@ -7,24 +7,13 @@ ghost use Rattle.c_answers.specs.Answers.{Allows};
 
 use c_answers::Refusal;
 use c_type_ids::TypeTable;
-use c_values::{Type, is_integer, is_scalar, kind_of};
-
-/// A condition is scalar (6.8.4.1, 1; 6.8.5, 2).
-pub fn check_condition(table: &TypeTable, condition: Type, node: usize) -> Result<(), Refusal>
-    requires { (t : types.CType) × IsType table.now condition t }
-    ensures { (t : types.CType) → IsType table.now condition t → Allows result (faults.bad_operand (types.is_scalar t) node) }
-{
-    if is_scalar(kind_of(table, condition)) {
-        Ok(())
-    } else {
-        Err(Refusal::Broken { rule: 13, node })
-    }
-}
+use c_values::{Type, is_integer, kind_of};
 
 /// The expression of a `switch` is an integer (6.8.4.2, 1).
 pub fn check_selector(table: &TypeTable, selector: Type, node: usize) -> Result<(), Refusal>
     requires { (t : types.CType) × IsType table.now selector t }
-    ensures { (t : types.CType) → IsType table.now selector t → Allows result (faults.bad_operand (types.is_integer t) node) }
+    ensures is { (t : types.CType) → IsType table.now selector t → Allows result (faults.bad_operand (types.is_integer t) node) }
+    ensures decides { result ≢ Err Refusal.OutOfMemory }
 {
     if is_integer(kind_of(table, selector)) {
         Ok(())
@@ -35,7 +24,8 @@ pub fn check_selector(table: &TypeTable, selector: Type, node: usize) -> Result<
 
 /// A jump stands in what it leaves or goes on with (6.8.6.2, 1; 6.8.6.3, 1).
 pub fn check_jump(is_inside: bool, node: usize) -> Result<(), Refusal>
-    ensures { Allows result (faults.outside_a_loop is_inside node) }
+    ensures is { Allows result (faults.outside_a_loop is_inside node) }
+    ensures decides { result ≢ Err Refusal.OutOfMemory }
 {
     if is_inside {
         Ok(())

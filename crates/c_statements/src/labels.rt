@@ -1,5 +1,5 @@
 // The labels of `switch`es (C99 6.8.4.2).
-ghost use Rattle.std.specs.Prelude.{◌≡◌, ◌∷◌, ◌++◌, ◌||◌, [], ℕ, List, None, Option, OnOk, IfOk, Some};
+ghost use Rattle.std.specs.Prelude.{◌≡◌, ◌∷◌, ◌++◌, ◌||◌, [], ℕ, List, None, Option, OnErr, OnOk, IfOk, Some, true};
 ghost use Rattle.c_typing.specs.Places.{Node};
 ghost use Rattle.c_typing.specs.Names.{Places};
 ghost use Rattle.c_typing.specs.Judgements as rules;
@@ -52,6 +52,8 @@ impl Labels {
     fn add(&mut self, label: Label) -> Result<bool, AllocError>
         ensures found { IfOk result (λ found. found ≡ has_label self.old label.switch label.word) }
         ensures added { OnOk result ((switch : ℕ) (word : Option ℕ) → has_label self.new switch word ≡ (has_label self.old switch word || is_label switch word label)) }
+        ensures there { IfOk result (λ found. found ≡ true → self.new ≡ self.old) }
+        ensures err { OnErr result (self.new ≡ self.old) }
     {
         match self.seen.insert(label) {
             Ok(is_new) => Ok(!is_new),
@@ -60,7 +62,8 @@ impl Labels {
     }
 }
 
-/// A case of the `switch` at this node: its word, by the constant at a node of its own (rules 8, 9 and 26).
+/// A case of the `switch` at this node: its word, by the constant at a node of its own (rules 8, 9 and 26). After a refusal the
+/// labels are as before.
 pub fn case_label(
     labels: &mut Labels,
     switch: usize,
@@ -71,17 +74,19 @@ pub fn case_label(
     ensures is { (p : Places) (js : List rules.Judgement) (n : Node) (c : rules.Constant) → n.id ≡ node → AreBefore labels.old switch p js n → constant_of constant ≡ c →
         Settles (λ w. w ≡ word_in c) result (faults.not_constant c constant_node ++ faults.out_of_range c ++ statements.repeated_case p js n c) }
     ensures added { (s : ℕ) (word : Option ℕ) → IfOk result (λ w. has_label labels.new s word ≡ (has_label labels.old s word || is_label s word (record { switch = switch; word = Some w }))) }
+    ensures err { OnErr result (labels.new ≡ labels.old) }
 {
     let word = constant_word(constant, constant_node)?;
     check_new(labels, switch, Some(word), node)?;
     Ok(word)
 }
 
-/// The default of the `switch` at this node (rule 26).
+/// The default of the `switch` at this node (rule 26). After a refusal the labels are as before.
 pub fn default_label(labels: &mut Labels, switch: usize, node: usize) -> Result<(), Refusal>
     ensures is { (p : Places) (js : List rules.Judgement) (n : Node) → n.id ≡ node → AreBefore labels.old switch p js n →
         Allows result (faults.case_twice (statements.has_before p js n None) node) }
     ensures added { (s : ℕ) (word : Option ℕ) → OnOk result (has_label labels.new s word ≡ (has_label labels.old s word || is_label s word (record { switch = switch; word = None }))) }
+    ensures err { OnErr result (labels.new ≡ labels.old) }
 {
     check_new(labels, switch, None, node)
 }
@@ -95,6 +100,7 @@ fn check_new(
 ) -> Result<(), Refusal>
     ensures is { Allows result (faults.case_twice (has_label labels.old switch word) node) }
     ensures added { (s : ℕ) (w : Option ℕ) → OnOk result (has_label labels.new s w ≡ (has_label labels.old s w || is_label s w (record { switch = switch; word = word }))) }
+    ensures err { OnErr result (labels.new ≡ labels.old) }
 {
     if labels.add(Label { switch, word })? {
         return Err(Refusal::Broken { rule: 26, node });

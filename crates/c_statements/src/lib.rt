@@ -9,7 +9,7 @@
 //
 // The theorem, on each function: the answer is that of the definition in `c_typing`, or the first of its faults.
 //
-// `forms` has statements from their parts, `conditions` and `returns` what is asked of values, `labels` the labels of
+// `forms` has statements from their parts, `conditions` and `returns` what is asked of jumps and values, `labels` the labels of
 // `switch`es, and `groups` what stands behind them.
 //
 // Source: C99 6.8.
@@ -21,7 +21,7 @@ mod groups;
 mod labels;
 mod returns;
 
-pub use conditions::{check_condition, check_jump, check_selector};
+pub use conditions::{check_jump, check_selector};
 pub use forms::{
     as_one, conditional, expression, loop_after, loop_before, one, return_of, selection, unset,
 };
