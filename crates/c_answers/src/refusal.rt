@@ -1,7 +1,8 @@
 // Why a node is refused.
-ghost use Rattle.std.specs.Prelude.{◌∷◌, ◌-◌, ◌^◌, [], min};
+ghost use Rattle.std.specs.Prelude.{◌≡◌, ◌∷◌, ◌-◌, ◌^◌, [], min};
 ghost use Rattle.c_typing.specs.Judgements as rules;
 ghost use Rattle.c_answers.specs.Answers.{IsFirst};
+ghost use Rattle.c_answers.specs.declared.refusal.Refusal.TheVariants.{TooBig};
 
 use std::alloc::AllocError;
 
@@ -27,7 +28,8 @@ impl From<AllocError> for Refusal {
 
 /// A type at this node has this size, which is above the limit.
 pub fn too_big(node: usize, size: u64) -> Refusal
-    ensures { IsFirst result (rules.too_big node (min size (2 ^ 64 - 1)) ∷ []) }
+    ensures is { result ≡ TooBig node size }
+    ensures first { IsFirst result (rules.too_big node (min size (2 ^ 64 - 1)) ∷ []) }
 {
     Refusal::TooBig { node, size }
 }

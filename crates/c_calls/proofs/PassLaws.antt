@@ -18,7 +18,7 @@ use Rattle.c_values.specs.Typings.{Is}
 use Rattle.c_answers.specs.declared.refusal.Refusal.{Refusal}
 use Rattle.c_answers.specs.declared.refusal.Refusal.TheVariants as refusal
 use Rattle.c_answers.specs.Answers.{IsFirst, Settles}
-use Rattle.c_places.proofs.GrowLaws.{is_grows}
+use Rattle.c_values.proofs.GrowLaws.{is_grows}
 use Rattle.c_calls.specs.Arguments.{AreTypings}
 
 pub typings_grow : (old new : Known) → Keeps old new → (ts : List Typing) (xs : List rules.Typing) → AreTypings old ts xs → AreTypings new ts xs

@@ -4,10 +4,9 @@ use Rattle.std.specs.Prelude.{if◌then◌else◌, codes, Result, Ok, Err, IfOk}
 use Rattle.std.specs.Str.{bytes_eq}
 use Rattle.std.proofs.lemmas.Bool.{false≢true}
 use Rattle.c_types.specs.declared.kind.TypeId.{TypeId}
-use Rattle.c_typing.specs.Types.{CType, CTypes, integer, pointer, unsized, function, int, same, is_unsized, no_types, a_type}
+use Rattle.c_typing.specs.Types.{CType, CTypes, integer, unsized, function, int, same, is_unsized, no_types, a_type}
 use Rattle.c_typing.specs.Rules.{broken_if, agree, gives_int, bad_main, is_getchar, is_putchar, bad_library_name}
-use Rattle.c_type_ids.specs.Ids.{Known, Keeps, Names, NamesAll}
-use Rattle.c_type_ids.proofs.IdLaws.{names_grow}
+use Rattle.c_type_ids.specs.Ids.{Known, Names, NamesAll}
 use Rattle.c_values.specs.declared.typings.«Type».{«Type» as TypeForm}
 use Rattle.c_values.specs.declared.typings.«Type».TheVariants as type
 use Rattle.c_values.specs.Typings.{IsType}
@@ -23,14 +22,6 @@ is_sized k (type.Known id) (unsized t) h not = absurd h
 is_sized k (type.Unsized id) (unsized t) h not = absurd (not id refl)
 is_sized k (type.ToUnsized id) (unsized t) h not = absurd h
 is_sized k a t h not = refl
-
--- a type stays what it is
-pub type_grows : (old new : Known) → Keeps old new → (a : TypeForm) (t : CType) → IsType old a t → IsType new a t
-type_grows old new g (type.Known id) t h = names_grow old new g.types g.structs id t h
-type_grows old new g (type.Unsized id) (unsized t) h = names_grow old new g.types g.structs id t h
-type_grows old new g (type.Unsized id) t h = absurd h
-type_grows old new g (type.ToUnsized id) (pointer (unsized t)) h = names_grow old new g.types g.structs id t h
-type_grows old new g (type.ToUnsized id) t h = absurd h
 
 -- the type of functions to `int`, with one parameter or none
 pub to_int : {E : Type 0} → (old new : Known) (gives : TypeId) (one : Bool) (takes : List TypeId) (r : Result TypeId E) → Names old gives (integer int)

@@ -14,7 +14,7 @@ use Rattle.c_typing.specs.Types.{Field, struct}
 use Rattle.c_types.specs.declared.kind.TypeId.{TypeId}
 use Rattle.c_type_ids.specs.Ids.{Known, Keeps, AreMembers}
 use Rattle.c_type_ids.proofs.IdLaws.{names_grow}
-use Rattle.c_declared_types.proofs.QuestionLaws.{type_grows}
+use Rattle.c_values.proofs.GrowLaws.{is_grows, type_grows}
 use Rattle.c_declared_types.proofs.StepLaws.{steps_grow}
 use Rattle.c_values.specs.declared.typings.«Type».{«Type» as TypeForm}
 use Rattle.c_values.specs.declared.typings.Typing.{Typing}
@@ -173,9 +173,6 @@ no_declarator_cells k s (rules.breaks_rules f fs) other there h = refl
 no_declarator_cells k s waits other there h = refl
 
 -- ---- what is judged stays judged while types are added
-
-is_grows : (old new : Known) → Keeps old new → (x : Typing) (y : rules.Typing) → Is old x y → Is new x y
-is_grows old new g x y h = record { has = h.has; type = type_grows old new g x.kind y.type h.type; form = h.form; constant = h.constant; code = h.code }
 
 members_grow : (old new : Known) → Keeps old new → (ms : List (List ℕ × TypeId)) (fs : List Field) → AreMembers old ms fs → AreMembers new ms fs
 members_grow old new g [] [] h = tt

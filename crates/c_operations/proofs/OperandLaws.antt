@@ -3,16 +3,12 @@ use Rattle.std.proofs.Common.{◌≡◌, ℕ, Bool, true, false, List, [], refl,
 use Rattle.std.specs.Prelude.{Result, Ok, Err, IfOk}
 use Rattle.std.specs.Result.{IsErrAnd}
 use Rattle.c_typing.specs.Judgements as rules
-use Rattle.c_typing.specs.Types.{CType, pointer, unsized}
 use Rattle.c_typing.specs.Judgements.{Fault, rule, Meaning, expresses, verdict}
 use Rattle.c_typing.specs.Rules.{bad_operand}
-use Rattle.c_type_ids.specs.Ids.{Known, Grows}
-use Rattle.c_type_ids.proofs.IdLaws.{names_grow}
+use Rattle.c_type_ids.specs.Ids.{Known}
 use Rattle.c_values.specs.declared.operators.Operand.{Operand}
-use Rattle.c_values.specs.declared.typings.«Type».{«Type» as TypeForm}
-use Rattle.c_values.specs.declared.typings.«Type».TheVariants as type
 use Rattle.c_values.specs.declared.typings.Typing.{Typing}
-use Rattle.c_values.specs.Typings.{Is, IsType}
+use Rattle.c_values.specs.Typings.{Is}
 use Rattle.c_values.specs.Operators.{IsOperand}
 use Rattle.c_answers.specs.declared.refusal.Refusal.{Refusal}
 use Rattle.c_answers.specs.declared.refusal.Refusal.TheVariants as refusal
@@ -40,14 +36,3 @@ handed k h (Err e) faults refused m is first = refuses_verdict (Expresses k h) e
 -- the operand of an expression
 pub operand_is : (k : Known) (v : Typing) (o : Operand) (x : rules.Typing) → o ≡ record { kind = v.kind; constant = v.constant } → Is k v x → IsOperand k o x
 operand_is k v o x e is = subst (λ p. IsOperand k p x) (sym e) (record { type = is.type; constant = is.constant })
-
--- an expression stays what it is
-pub type_grows : (old new : Known) → Grows old new → (a : TypeForm) (t : CType) → IsType old a t → IsType new a t
-type_grows old new g (type.Known id) t h = names_grow old new g.keeps.types g.keeps.structs id t h
-type_grows old new g (type.Unsized id) (unsized t) h = names_grow old new g.keeps.types g.keeps.structs id t h
-type_grows old new g (type.Unsized id) t h = absurd h
-type_grows old new g (type.ToUnsized id) (pointer (unsized t)) h = names_grow old new g.keeps.types g.keeps.structs id t h
-type_grows old new g (type.ToUnsized id) t h = absurd h
-
-pub is_grows : (old new : Known) → Grows old new → (v : Typing) (x : rules.Typing) → Is old v x → Is new v x
-is_grows old new g v x is = record { has = is.has; type = type_grows old new g v.kind x.type is.type; form = is.form; constant = is.constant; code = is.code }

@@ -1,13 +1,13 @@
 -- A member by its name.
-use Rattle.std.proofs.Common.{◌≡◌, ◌↔◌, Bool, true, false, ℕ, List, [], ◌∷◌, refl, sym, ap, ◌∙◌, subst, Option, Some, None}
-use Rattle.std.specs.Prelude.{find, if◌then◌else◌, option_and_then}
+use Rattle.std.proofs.Common.{◌≡◌, ◌↔◌, Bool, true, false, ℕ, zero, suc, List, [], ◌∷◌, refl, sym, ap, ◌∙◌, subst, Option, Some, None}
+use Rattle.std.specs.Prelude.{find, if◌then◌else◌, option_and_then, slice_get}
 use Rattle.std.specs.List.{list_any}
 use Rattle.std.specs.Str.{bytes_eq}
 use Rattle.c_types.specs.declared.kind.TypeId.{TypeId}
 use Rattle.c_types.specs.declared.kind.StructId.{StructId}
 use Rattle.c_types.specs.declared.kind.Measure.{Measure}
 use Rattle.c_types.specs.InOrder.{offsets}
-use Rattle.c_types.specs.Sizes.{Member, HasMember, IsClosed, MeasuresAll, member_of, members_of, members_in, names_of}
+use Rattle.c_types.specs.Sizes.{Member, HasMember, IsClosed, IsOpen, MeasuresAll, member_of, members_of, members_in, names_of, part_at}
 use Rattle.std.proofs.lemmas.Slice.Eq.{bytes_eq-Decides}
 use Rattle.std.proofs.lemmas.Bool.Decides.{same_from_decides}
 use Rattle.c_types.proofs.SizeLaws.{one_each}
@@ -63,3 +63,28 @@ member_found k s name found some none node layouts e laid = by (layout_of layout
     by (Some l) h =
         subst (λ r. IsField k r (find (λ (field : Field). bytes_eq field.name name) l.fields)) (sym (answer_is k s name found h.members h.measures some h.closed h.measured))
         (found_among k name h.members (offsets h.measures) l.fields h.fields)
+
+-- ---- a member by its index
+
+part_among : (k : Known) (index : ℕ) (members : List Member) (os : List ℕ) (fields : List Field) → AreFields k members os fields
+    → IsField k (part_at index members os) (slice_get fields index)
+part_among k index [] [] [] h = tt
+part_among k index [] [] (f ∷ fs) h = absurd h
+part_among k index [] (o ∷ os) fs h = absurd h
+part_among k index (m ∷ ms) [] fs h = absurd h
+part_among k index (m ∷ ms) (o ∷ os) [] h = absurd h
+part_among k zero (m ∷ ms) (o ∷ os) (f ∷ fs) (named, at, n, more) = (at, n)
+part_among k (suc index) (m ∷ ms) (o ∷ os) (f ∷ fs) (named, at, n, more) = part_among k index ms os fs more
+
+pub part_found : (k : Known) (s : StructId) (index : ℕ) (found : Option (ℕ × TypeId))
+    → ((members : List Member) (ms : List Measure) → IsClosed k.table s members → MeasuresAll k.table members ms → found ≡ part_at index members (offsets ms))
+    → (IsOpen k.table s → found ≡ None)
+    → (node : ℕ) (layouts : List Layout) → struct_by k.structs node ≡ Some s → AreLaid k layouts
+    → IsField k found (option_and_then (λ (l : Layout). slice_get l.fields index) (layout_of layouts node))
+part_found k s index found closed unclosed node layouts e laid = by (layout_of layouts node) (subst (λ o. LaidAs k o (layout_of layouts node)) e (laid node))
+  where
+    by : (l : Option Layout) → LaidAs k (Some s) l → IsField k found (option_and_then (λ (l : Layout). slice_get l.fields index) l)
+    by None h = subst (λ r. IsField k r None) (sym (unclosed h)) tt
+    by (Some l) h =
+        subst (λ r. IsField k r (slice_get l.fields index)) (sym (closed h.members h.measures h.closed h.measured))
+        (part_among k index h.members (offsets h.measures) l.fields h.fields)

@@ -1,12 +1,12 @@
 // The types of a unit by their ids.
-ghost use Rattle.std.specs.Prelude.{◌≡◌, ◌==◌, ◌*◌, ◌<◌, ◌≤◌, ℕ, List, None, Some, Err, IfOk, IfSome, OnErr, OnOk, OnSome, length, option_map, replicate};
+ghost use Rattle.std.specs.Prelude.{◌≡◌, ◌==◌, ◌*◌, ◌<◌, ◌≤◌, ℕ, List, None, Some, Err, IfOk, IfSome, OnErr, OnOk, OnSome, length, option_and_then, option_map, replicate, slice_get};
 ghost use Rattle.std.specs.List.{AllByRecursion};
 ghost use Rattle.c_types.specs.declared.kind.Measure.{Measure};
 ghost use Rattle.c_types.specs.declared.kind.TheConstants.{MAX_SIZE};
 ghost use Rattle.c_types.specs.Sizes.{Has, IsMeasured, IsOpen, IsSized, Measures, no_types};
 ghost use Rattle.c_types.specs.Tables.{Fits, IsStruct, IsThere, IsTooBig, PartsAreThere};
 ghost use Rattle.c_typing.specs.Types as types;
-ghost use Rattle.c_typing.specs.Types.{CType, CTypes, Layout, align_of, measure, same};
+ghost use Rattle.c_typing.specs.Types.{CType, CTypes, Layout, align_of, layout_of, measure, same};
 ghost use Rattle.c_typing.specs.Expressions.{field_of};
 ghost use Rattle.c_type_ids.specs.Integers.{integer_of};
 ghost use Rattle.c_type_ids.specs.Ids.{AreLaid, Grows, IsClosedBy, IsField, IsTooBigBy, Names, NamesAll, Shows, shown_by, struct_by};
@@ -155,6 +155,15 @@ impl TypeTable {
             IsField self.now result (field_of layouts (types.struct node) name.now) }
     {
         self.types.member(s, name)
+    }
+
+    /// The offset and the type of the member of this index, of a struct that a node declares.
+    pub fn part(&self, s: StructId, index: usize) -> Option<(u32, TypeId)>
+        requires { (node : ℕ) × (struct_by self.now.structs node ≡ Some s) }
+        ensures { (node : ℕ) (layouts : List Layout) → struct_by self.now.structs node ≡ Some s → AreLaid self.now layouts →
+            IsField self.now result (option_and_then (λ (l : Layout). slice_get l.fields index) (layout_of layouts node)) }
+    {
+        self.types.part(s, index)
     }
 
     // A type that is no array, and so is within the limit.

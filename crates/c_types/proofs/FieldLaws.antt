@@ -15,7 +15,7 @@ use Rattle.c_types.specs.declared.types.Field.{Field}
 use Rattle.c_types.specs.declared.types.Body.{Body}
 use Rattle.c_types.specs.InOrder.{offsets, offsets_from, least_multiple}
 use Rattle.c_types.specs.Sizes as sizes
-use Rattle.c_types.specs.Sizes.{Table, Member, HasMember, IsClosed, IsMeasured, IsOpen, MeasuresAll, no_members, a_member, names_of, struct_measure}
+use Rattle.c_types.specs.Sizes.{Table, Member, HasMember, IsClosed, IsMeasured, IsOpen, MeasuresAll, no_members, a_member, names_of, part_at, struct_measure}
 use Rattle.c_types.specs.Tables.{StructFits, closed, members_from}
 use Rattle.c_types.specs.Kept.{IsKept, IsLaid, member_of, members_of, table_of}
 use Rattle.c_types.proofs.ReadLaws.{body_at, laid_at}
@@ -92,3 +92,26 @@ module _ (kinds : List (TypeKind × Option Measure)) (structs : List (Option Bod
 
     pub open_no_member : (◌≡◌ {A = Option (ℕ × TypeId)} None None) ↔ (list_any (bytes_eq name) (names_of (sizes.members_of (table_of kinds structs) s)) ≡ false)
     open_no_member = (λ e. ap (λ (b : Option (Option (List Member))). list_any (bytes_eq name) (names_of (sizes.members_in b))) (body_at kinds structs s None at), λ e. refl)
+
+-- ---- the member of an index
+
+-- the offset and the type of the field of this index
+abbrev pub at_place : ℕ → List Field → Option (ℕ × TypeId)
+at_place index fields = part_at index (map member_of fields) (map (λ (field : Field). field.offset) fields)
+
+module _ (kinds : List (TypeKind × Option Measure)) (structs : List (Option Body)) (s : StructId) where
+  pub part_is : IsKept kinds structs → (index : ℕ) (body : Body) → slice_get structs s.number ≡ Some (Some body) → (members : List Member) (ms : List Measure)
+      → IsClosed (table_of kinds structs) s members → MeasuresAll (table_of kinds structs) members ms → at_place index body.fields ≡ part_at index members (offsets ms)
+  part_is kept index body at members ms closed all =
+      let laid = laid_at kinds structs s (Some body) at kept in
+      let here = body_at kinds structs s (Some body) at in
+      let same : members ≡ members_of body = cc (sym closed ∙ here) in
+      let measured = subst (λ xs. MeasuresAll (table_of kinds structs) xs ms) same all in
+      ap₂ (part_at index) (sym same) (laid.2 ∙ ap offsets (one_each laid.1 ms measured))
+
+  pub open_part : (body : Body) → slice_get structs s.number ≡ Some (Some body) → (found : Option (ℕ × TypeId)) → IsOpen (table_of kinds structs) s → found ≡ None
+  open_part body at found unclosed = absurd (cc (sym unclosed ∙ body_at kinds structs s (Some body) at))
+
+  pub closed_part : (index : ℕ) → slice_get structs s.number ≡ Some None → (members : List Member) (ms : List Measure)
+      → IsClosed (table_of kinds structs) s members → MeasuresAll (table_of kinds structs) members ms → ◌≡◌ {A = Option (ℕ × TypeId)} None (part_at index members (offsets ms))
+  closed_part index at members ms closed all = absurd (cc (sym closed ∙ body_at kinds structs s None at))

@@ -1,5 +1,5 @@
 -- The types of a table, with their sizes, alignments and offsets.
-use Rattle.std.specs.Prelude.{◌≡◌, ℕ, ◌*◌, List, [], ◌∷◌, Option, Some, None, slice_get, map, if◌then◌else◌}
+use Rattle.std.specs.Prelude.{◌≡◌, ℕ, ◌*◌, List, [], ◌∷◌, Option, Some, None, slice_get, map, if◌then◌else◌, option_and_then, option_map}
 use Rattle.std.specs.Str.{bytes_eq}
 use Rattle.c_types.specs.declared.kind.TypeId.{TypeId}
 use Rattle.c_types.specs.declared.kind.StructId.{StructId}
@@ -110,6 +110,11 @@ member_of name members offsets = None
 abbrev pub HasMember : Table → StructId → List ℕ → ℕ → TypeId → Type 0
 HasMember t s name offset type = (members : List Member) × (ms : List Measure) × IsClosed t s members × MeasuresAll t members ms
     × (member_of name members (offsets ms) ≡ Some (offset, type))
+
+-- the offset and the type of the member of this index
+abbrev pub part_at : ℕ → List Member → List ℕ → Option (ℕ × TypeId)
+part_at index members offsets =
+    option_and_then (λ (member : Member). option_map (λ offset. (offset, member.type)) (slice_get offsets index)) (slice_get members index)
 
 -- the members of a struct; an open one has none so far
 abbrev pub members_in : Option (Option (List Member)) → List Member

@@ -4,7 +4,7 @@ ghost use Rattle.std.specs.List.{AllByRecursion, list_any};
 ghost use Rattle.std.specs.Str.{bytes_eq};
 ghost use Rattle.c_types.specs.InOrder.{AreAligned, offsets};
 ghost use Rattle.c_types.specs.Sizes as sizes;
-ghost use Rattle.c_types.specs.Sizes.{Has, HasMember, HasSize, IsIncomplete, IsMeasured, IsOpen, IsSized, Measures, MeasuresAll, members_of, names_of, no_types};
+ghost use Rattle.c_types.specs.Sizes.{Has, HasMember, HasSize, IsClosed, IsIncomplete, IsMeasured, IsOpen, IsSized, Measures, MeasuresAll, Member, members_of, names_of, no_types, part_at};
 ghost use Rattle.c_types.specs.Tables.{Fits, IsAdded, IsOpened, IsStruct, IsThere, IsTooBig, KeepsSizes, PartsAreThere, StructFits, StructIsTooBig, closed, members_from};
 ghost use Rattle.c_types.specs.WellMade.{IsAlignment};
 ghost use Rattle.c_types.specs.Kept as kept;
@@ -261,6 +261,19 @@ impl Types {
             None => None,
         }
     }
+
+    /// The offset and the type of the member of this index.
+    pub fn part(&self, id: StructId, index: usize) -> Option<(u32, TypeId)>
+        requires { IsStruct self.now id }
+        ensures closed { (members : List Member) (ms : List Measure) → IsClosed self.now id members → MeasuresAll self.now members ms →
+            result ≡ part_at index members (offsets ms) }
+        ensures open { IsOpen self.now id → result ≡ None }
+    {
+        match &self.structs[id.number] {
+            Some(body) => field_at(body.fields.as_slice(), index),
+            None => None,
+        }
+    }
 }
 
 // The place of the kind, which is added where it is not there yet.
@@ -371,6 +384,17 @@ fn copied(alloc: Global, name: &Name) -> Result<Name, AllocError>
     Ok(copy)
 }
 
+// The offset and the type of the field of this index.
+fn field_at(fields: &[Field], index: usize) -> Option<(u32, TypeId)>
+    ensures { result ≡ part_at index (map kept.member_of fields.now) (map (λ field. field.offset) fields.now) }
+{
+    match fields.get(index) {
+        Some(field) => Some((field.offset, field.kind)),
+        None => None,
+    }
+}
+
+// The offset and the type of the first field of this name.
 fn field_named(fields: &[Field], name: &str) -> Option<(u32, TypeId)>
     ensures { result ≡ sizes.member_of name.now (map kept.member_of fields.now) (map (λ field. field.offset) fields.now) }
 {

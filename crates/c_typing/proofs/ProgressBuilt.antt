@@ -156,11 +156,13 @@ module _ (p : Places) (js : List Judgement) (node : Node) where
         by (inr v) = h v
 
     given_by : is_given_by_initializer p node ≡ true → is_given p node.first ≡ true
-    given_by e = by (is_next_to_name p.nodes node) _ _ e
+    given_by e = by (is_next_to_name p.nodes node) _ _ _ e
       where
-        by : (a b c : Bool) → (a && b && c) ≡ true → (b && c) ≡ true
-        by true b c e = e
-        by false b c e = no e
+        by : (a b c d : Bool) → (a && b && c && d) ≡ true → (b && c) ≡ true
+        by true true true d e = refl
+        by true true false d e = e
+        by true false c d e = e
+        by false b c d e = no e
 
     absent_traces : (ss : List PlacedStep) → steps_at js (kid node 0) ≡ Some ss → Traces p js node (absent_length_step p js node ss)
     unfolding absent_length_step

@@ -190,6 +190,7 @@ rule_7 =
     breaks "int(*p)[];int main(void){return 0;}" 7 "array" 0 ∷
     keeps "int(*p)[3];int main(void){return 0;}" ∷
     breaks "typedef int t[];int main(void){return 0;}" 7 "array" 0 ∷
+    breaks "typedef int t[]={1};int main(void){return 0;}" 7 "array" 0 ∷
     keeps "typedef int t[1];int main(void){return 0;}" ∷
     breaks "int x=sizeof(int[]);int main(void){return 0;}" 7 "array" 0 ∷
     keeps "int x=sizeof(int[1]);int main(void){return 0;}" ∷

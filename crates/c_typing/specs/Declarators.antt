@@ -10,7 +10,7 @@ use Rattle.c_grammar.specs.Vocabulary.{is_type_word, is_storage_word}
 use Rattle.c_types.specs.InOrder.{offsets}
 use Rattle.c_types.specs.Sizes.{struct_measure}
 use Rattle.c_typing.specs.Types.{bool, char, schar, uchar, short, ushort, int, uint, long, ulong, CType, void, integer, pointer, array, unsized, struct, function, types_of, Field, Layout, measure, no_measure, size_of, is_unsized}
-use Rattle.c_typing.specs.Places.{Node, node_at, kind_at, text_at, parent_of, kid, has_kid, other_kids, index_in, is_word, is_whole, is_next_to_name, whole_declarator, own_takes, specs_of, is_init, is_param}
+use Rattle.c_typing.specs.Places.{Node, node_at, kind_at, text_at, parent_of, kid, has_kid, other_kids, index_in, is_word, is_whole, is_next_to_name, whole_declarator, own_takes, specs_of, says, is_init, is_param}
 use Rattle.c_typing.specs.Names.{Places, Name, Entity, typedef_name, function_name, static_object, automatic, parameter, enumerator, is_typedef, denoted, name_of, Tag, tag_of, earlier}
 use Rattle.c_typing.specs.Judgements.{Constant, number, Typing, Step, to_pointer, of_array, of_unsized, of_parameter, of_function, PlacedStep, Fault, itself, a_type, a_struct, members, enumerates, steps, declares, Judgement, means, verdict, given, all_of, judgement_at, typing_at, type_at, steps_at, layouts, besides}
 use Rattle.c_typing.specs.Expressions.{type_of_name, word_of_enumerator}
@@ -288,10 +288,11 @@ abbrev pub is_parameter_length : Places → Node → Bool
 is_parameter_length p node =
     is_next_to_name p.nodes node && is_param (node_at p.nodes (whole_declarator p.nodes node.first).parent).label.kind
 
+-- a typedef name has no initializer that gives a length
 abbrev pub is_given_by_initializer : Places → Node → Bool
 is_given_by_initializer p node =
     let owner = node_at p.nodes (whole_declarator p.nodes node.first).parent in
-    is_next_to_name p.nodes node && is_init owner.label.kind && has_kid owner 1
+    is_next_to_name p.nodes node && is_init owner.label.kind && has_kid owner 1 && not (says p.nodes (codes "typedef") (specs_of p.nodes owner))
 
 unfoldable pub absent_length_step : Places → List Judgement → Node → List PlacedStep → Judgement
 absent_length_step p js node ss =

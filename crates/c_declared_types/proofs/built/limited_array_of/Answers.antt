@@ -13,4 +13,4 @@ returns-in-Err-TooBig-clause-is c = λ ls t laid named.
     let size = c.in-Err-TooBig.size in
     subst (IsFirst c.too_big.result)
     (sym (array_too_big c.args.table.now ls laid c.args.id t named c.args.count c.args.node size (c.array.ensures.too_big size (c.in-Err-TooBig.is ∙ ap Err c.in-Err-TooBig.field-0-is))))
-    c.too_big.ensures
+    c.too_big.ensures.first

@@ -13,4 +13,4 @@ returns-in-Err-TooBig-clause-fits c = λ k ls fields laid are.
     let told = c.in-Err-TooBig.size in
     subst (IsFirst c.too_big.result)
     (sym (size_too_big (layout ls k fields).measure.size told c.args.node (c.close.ensures.too_big told (c.in-Err-TooBig.is ∙ ap Err c.in-Err-TooBig.field-0-is) k ls fields laid are)))
-    c.too_big.ensures
+    c.too_big.ensures.first

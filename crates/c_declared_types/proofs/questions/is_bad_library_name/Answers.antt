@@ -2,7 +2,8 @@ use Rattle.std.proofs.Common.{[], ◌∷◌, ◌≡◌, not, sym, subst}
 use Rattle.std.specs.Prelude.{if◌then◌else◌}
 use Rattle.c_typing.specs.Types.{integer, int}
 use Rattle.c_typing.specs.Rules.{gives_int, broken_if, bad_library_name}
-use Rattle.c_declared_types.proofs.QuestionLaws.{library_faults, type_grows}
+use Rattle.c_declared_types.proofs.QuestionLaws.{library_faults}
+use Rattle.c_values.proofs.GrowLaws.{type_grows}
 use Rattle.c_declared_types.proofs.questions.is_bad_library_name.Goals as goal
 
 pub returns-clause-is : goal.returns-clause-is

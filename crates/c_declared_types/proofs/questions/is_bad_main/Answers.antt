@@ -1,6 +1,7 @@
 use Rattle.std.proofs.Common.{[], sym, ◌∙◌}
 use Rattle.c_typing.specs.Rules.{gives_int}
-use Rattle.c_declared_types.proofs.QuestionLaws.{main_faults, type_grows}
+use Rattle.c_declared_types.proofs.QuestionLaws.{main_faults}
+use Rattle.c_values.proofs.GrowLaws.{type_grows}
 use Rattle.c_declared_types.proofs.questions.is_bad_main.Goals as goal
 
 pub returns-clause-is : goal.returns-clause-is

@@ -1,6 +1,7 @@
 use Rattle.c_typing.specs.Judgements.{layouts}
 use Rattle.c_type_ids.proofs.TableLaws.{grows_on}
-use Rattle.c_places.proofs.GrowLaws.{is_grows, indexed_grows}
+use Rattle.c_values.proofs.GrowLaws.{is_grows}
+use Rattle.c_places.proofs.GrowLaws.{indexed_grows}
 use Rattle.c_places.proofs.elements.subscript.Goals as goal
 
 pub operand_of-requires-2 : goal.operand_of-requires-2
