@@ -1,0 +1,2 @@
+pub mod KidLaws
+pub mod MeaningLaws
