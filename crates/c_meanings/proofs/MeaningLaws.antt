@@ -1,14 +1,14 @@
 -- What is taken from the judgements, and the next node.
 use Rattle.std.proofs.Common.{◌≡◌, ◌≢◌, ◌⊎◌, inl, inr, ℕ, zero, suc, ◌+◌, ◌<◌, ◌≤◌, ◌++◌, Bool, true, false, List, [], ◌∷◌, Some, None, get_or, length, refl, sym, ap, subst, ◌∙◌, arith}
 use Rattle.c_types.specs.declared.tree.Stmt.{Stmt}
-use Rattle.std.specs.Prelude.{replicate, IfOk, MatchOption, Option, is_some, Result, Ok, Err, take, unwrap_or, slice_get, slice_set, if◌then◌else◌, ◌&&◌}
+use Rattle.std.specs.Prelude.{replicate, IfOk, MatchOption, Option, is_some, Result, Ok, Err, take, unwrap_or, ◌&&◌}
 use Rattle.std.proofs.lemmas.List.{length-append, length-set, get_or_append_left, get_or-set_other, get_or-set_same, get_or_default, take_more}
 use Rattle.std.proofs.lemmas.List.Elements.{filter_map-append}
 use Rattle.std.proofs.lemmas.Option.{slice_get-get_or}
 use Rattle.std.proofs.Math.Seq.{get_or-append_seam}
 use Rattle.std.proofs.lemmas.Bool.{cases_lt, false≢true}
 use Rattle.c_syntax.specs.declared.syntax.SynNode.{SynNode}
-use Rattle.c_typing.specs.Places.{Node, node_at, kind_at, is_braces, nowhere}
+use Rattle.c_typing.specs.Places.{Node, node_at, is_braces, nowhere}
 use Rattle.c_typing.specs.Judgements.{Judgement, Fault, judgement_at, typing_of, steps_of, code_of, typing_at, steps_at, code_at, faults_in, means, breaks_rules, waits}
 use Rattle.c_typing.specs.Judgements as rules
 use Rattle.c_typing.specs.Names.{Places}
@@ -21,12 +21,12 @@ use Rattle.c_values.specs.declared.typings.Typing.{Typing}
 use Rattle.c_typing.specs.Types.{Layout}
 use Rattle.c_answers.specs.declared.refusal.Refusal.{Refusal}
 use Rattle.c_answers.specs.declared.refusal.Refusal.TheVariants as refusal
-use Rattle.c_answers.specs.Answers.{Answers, Expresses, IsFirst}
+use Rattle.c_answers.specs.Answers.{Answers, Expresses}
 use Rattle.c_judgements.specs.declared.judged.Judged.{Judged}
 use Rattle.c_judgements.specs.declared.judged.Judged.TheVariants as judged
 use Rattle.c_judgements.specs.declared.judged.Judgements.{Judgements}
 use Rattle.c_judgements.specs.Judged.{AreJudged, IsJudged, IsLeft, is_owned, is_taken, has_cells, has_code, taken}
-use Rattle.c_judgements.proofs.JudgedLaws.{all_grow, changed, expressed, pushed, stands}
+use Rattle.c_judgements.proofs.JudgedLaws.{all_grow, changed, pushed, stands}
 use Rattle.c_declared_types.specs.declared.steps.Steps.{Steps}
 use Rattle.c_declared_types.specs.Steps.{AreSteps}
 use Rattle.c_values.specs.Typings.{Is}
@@ -436,3 +436,28 @@ code_answered k (Err e) ss j made same = tt
 pub code_alone : {E : Type 0} → (found : Result (List Stmt) E) → is_struct_answer (as_code found) ≡ false
 code_alone (Ok code) = refl
 code_alone (Err e) = refl
+
+-- ---- rows of statements and expressions
+
+module _ (table : List SynNode) (n low : ℕ) (old mid new : Meanings) (answer : Result Judged Refusal) (r : IsReady table n low mid) (within : n < length table) (left : AreLeft table n old mid) (same : slots_of new ≡ slots_of mid) (grows : Grows mid.types new.types) where
+  -- the node does this
+  pub coded_row : {E : Type 0} → (found : Result (List Stmt) E) (ss : List Stmt) → answer ≡ as_code found → IfOk found (λ code. code ≡ ss) → judged_at table n ≡ means (rules.performs ss) → IsRow table n old new answer
+  coded_row found ss is made means_it =
+      subst (IsRow table n old new) (sym is)
+      (grown_row table n low old mid new (as_code found) r within left same grows (code_alone found) (code_answered new.types found ss (judged_at table n) made means_it))
+
+  -- the node is this expression, or breaks a rule
+  pub expressed_row : (hidden : ℕ) (found : Result Typing Refusal) (j : Judgement) → answer ≡ as_expression found → judged_at table n ≡ j → Answers (Expresses new.types hidden) found j → IsRow table n old new answer
+  expressed_row hidden found j is means_it answers =
+      subst (IsRow table n old new) (sym is)
+      (grown_row table n low old mid new (as_expression found) r within left same grows (expression_alone found)
+      (subst (IsAnswered new.types (as_expression found)) (sym means_it) (expression_answered new.types hidden found j answers)))
+
+-- a row that finds no meaning
+pub waiting_row : (table : List SynNode) (n low : ℕ) (m : Meanings) → IsReady table n low m → n < length table → judged_at table n ≡ waits → IsRow table n m m (Ok judged.Waits)
+waiting_row table n low m r within none = plain_row table n low m (Ok judged.Waits) r within refl (waits_answered m.types (judged_at table n) none)
+
+-- a row that wants memory
+pub spent_row : (table : List SynNode) (n low : ℕ) (old mid new : Meanings) → IsReady table n low mid → n < length table → AreLeft table n old mid → slots_of new ≡ slots_of mid → Grows mid.types new.types
+    → IsRow table n old new (Err refusal.OutOfMemory)
+spent_row table n low old mid new r within left same grows = grown_row table n low old mid new (Err refusal.OutOfMemory) r within left same grows refl tt

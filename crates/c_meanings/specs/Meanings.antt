@@ -1,5 +1,5 @@
 -- What the nodes of a syntax tree mean, from node to node, as the checker has it.
-use Rattle.std.specs.Prelude.{◌≡◌, ◌≢◌, ◌<◌, ◌≤◌, ◌+◌, ◌⊎◌, ℕ, suc, Bool, true, false, List, [], Result, Ok, Err, ◌&&◌, get_or, length, take}
+use Rattle.std.specs.Prelude.{◌≡◌, ◌≢◌, ◌<◌, ◌≤◌, ◌+◌, ◌⊎◌, ℕ, suc, Bool, true, List, [], Result, Ok, Err, ◌&&◌, get_or, length, take}
 use Rattle.c_syntax.specs.declared.syntax.SynNode.{SynNode}
 use Rattle.c_types.specs.declared.tree.Stmt.{Stmt}
 use Rattle.c_typing.specs.Places.{Node, node_at, kind_at, kid, is_braces}

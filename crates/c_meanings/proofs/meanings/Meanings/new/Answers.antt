@@ -1,4 +1,3 @@
-use Rattle.std.specs.Prelude.{[]}
 use Rattle.c_meanings.proofs.MeaningLaws.{first_ready, no_structs}
 use Rattle.c_meanings.proofs.meanings.Meanings.new.Goals as goal
 

@@ -1,7 +1,7 @@
 use Rattle.std.proofs.Common.{◌≡◌, Some, sym, subst}
 use Rattle.std.specs.Prelude.{is_some}
 use Rattle.c_typing.specs.Judgements.{code_at}
-use Rattle.c_meanings.specs.Meanings.{judged_to, kid_in}
+use Rattle.c_meanings.specs.Meanings.{judged_to}
 use Rattle.c_meanings.proofs.MeaningLaws.{code_owned, some_there, take_left, take_ready, take_there, take_within}
 use Rattle.c_meanings.proofs.meanings.Meanings.take_code.Goals as goal
 

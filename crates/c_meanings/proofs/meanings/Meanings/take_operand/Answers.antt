@@ -1,4 +1,4 @@
-use Rattle.std.proofs.Common.{◌≡◌, Some, sym, subst}
+use Rattle.std.proofs.Common.{◌≡◌, sym, subst}
 use Rattle.std.specs.Prelude.{is_some}
 use Rattle.c_typing.specs.Judgements.{typing_at}
 use Rattle.c_meanings.specs.Meanings.{judged_to, kid_in}

@@ -1,4 +1,4 @@
-use Rattle.std.proofs.Common.{◌≡◌, Some, refl}
+use Rattle.std.proofs.Common.{refl}
 use Rattle.c_type_ids.proofs.IdLaws.{if_ok}
 use Rattle.c_meanings.specs.Meanings.{judged_to, kid_in}
 use Rattle.c_meanings.proofs.MeaningLaws.{operand_there, ready_grows}
