@@ -1,9 +1,10 @@
 -- What a chain sees, with one tag more.
-use Rattle.std.proofs.Common.{◌≡◌, ◌⊎◌, inl, inr, ℕ, zero, suc, ◌+◌, ◌<◌, ◌≤◌, Bool, true, false, ◌&&◌, ◌||◌, cond, List, [], ◌∷◌, ◌++◌, length, get_or, Option, Some, None, refl, sym, ap, ◌∙◌, subst, arith, true≢false}
+use Rattle.std.proofs.Common.{◌≡◌, ℕ, zero, suc, ◌<◌, ◌≤◌, Bool, true, false, ◌&&◌, ◌||◌, cond, List, [], ◌∷◌, ◌++◌, length, get_or, Option, Some, None, refl, sym, ap, ◌∙◌, arith, true≢false}
 use Rattle.std.specs.Prelude.{Vec, filter, if◌then◌else◌, nat_le, nat_lt, not, option_map, slice_set, ◌==◌}
 use Rattle.std.specs.List.{AllByRecursion}
 use Rattle.std.specs.declared.alloc.Global.{Global}
 use Rattle.std.proofs.lemmas.List.{get_or-map, length-map}
+use Rattle.c_syntax.specs.declared.syntax.SynNode.{SynNode}
 use Rattle.c_typing.specs.Places.{Node, Scope, end_of}
 use Rattle.c_typing.specs.Names.{Tag, inner_tag, innermost_tag, fresh_tag, tag_after}
 use Rattle.c_nodes.specs.declared.spans.Span.{Span}
@@ -215,6 +216,9 @@ with_chain (x ∷ chains) (suc i) chain = ap (λ rest. x.items ∷ rest) (with_c
 
 pub length-chains : (chains : List (Vec Entry Global)) → length (chains_of chains) ≡ length chains
 length-chains chains = length-map chains (λ chain. chain.items)
+
+pub chain_within : (table : List SynNode) (chains : List (Vec Entry Global)) (i : ℕ) → length (chains_of chains) ≡ length table → i < length table → i < length chains
+chain_within table chains i long within = let same = length-chains chains in omega (arith, same, long, within)
 
 abbrev pub AreEmpty : List (Vec Entry Global) → Type 0
 AreEmpty chains = AllByRecursion (λ (chain : Vec Entry Global). chain.items ≡ []) chains

@@ -1,14 +1,14 @@
 -- The order of the first tokens: where each node stands in it.
-use Rattle.std.proofs.Common.{◌≡◌, ◌⊎◌, inl, inr, ℕ, zero, suc, ◌+◌, ◌<◌, ◌≤◌, Bool, true, false, List, [], ◌∷◌, ◌++◌, Some, length, get_or, unwrap_or, refl, sym, ap, ap₂, ◌∙◌, subst, arith, length-append}
+use Rattle.std.proofs.Common.{◌≡◌, ◌⊎◌, inl, inr, ℕ, zero, suc, ◌+◌, ◌<◌, ◌≤◌, true, false, List, [], ◌∷◌, ◌++◌, Some, length, get_or, unwrap_or, refl, sym, ap, ap₂, ◌∙◌, subst, arith, length-append}
 use Rattle.std.specs.Prelude.{if◌then◌else◌, nat_eq, nat_lt, slice_get, slice_set}
 use Rattle.std.proofs.lemmas.Bool.Decides.{eqb_tells}
 use Rattle.std.proofs.lemmas.Option.{slice_get_within}
 use Rattle.std.proofs.lemmas.List.{get_or-set_same, get_or-set_other, length-set}
 use Rattle.c_syntax.specs.declared.label.Label.{Label}
 use Rattle.c_syntax.specs.declared.syntax.SynNode.{SynNode}
-use Rattle.c_syntax.specs.Trees.{Tree, Forest, none, tree, one}
+use Rattle.c_syntax.specs.Trees.{Forest, none, tree, one}
 use Rattle.c_syntax.specs.Tables.{size, roots}
-use Rattle.c_typing.specs.Places.{Node, numbers, nodes_of, nodes, node_at, nowhere, by_first_token}
+use Rattle.c_typing.specs.Places.{Node, numbers, nodes_of, node_at, nowhere, by_first_token}
 use Rattle.c_typing.proofs.MadeNodes.{In, in_front, in_back, in_either, at_in, in_at}
 use Rattle.c_nodes.specs.Parents.{AreNumbered, tree_in, nodes_in}
 use Rattle.c_tags.specs.Order.{order_in, depth_below, IsDeep, AreDepths}

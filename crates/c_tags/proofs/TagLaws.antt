@@ -190,6 +190,8 @@ module _ (table : List SynNode) (long : length (nodes_in table) ≡ length table
 
   stand_same : (k : ℕ) (chains : List (List Entry)) (bodies : List Bool) (found : List (Option Told)) → so_far (k + 1) ≡ so_far k → Stand table k chains bodies found → Stand table (k + 1) chains bodies found
   stand_same k chains bodies found e stand = record {
+    nodes = stand.nodes;
+    numbered = stand.numbered;
     chains_long = stand.chains_long;
     bodies_long = stand.bodies_long;
     found_long = stand.found_long;
@@ -405,6 +407,8 @@ module _ (table : List SynNode) (long : length (nodes_in table) ≡ length table
 
       pub stand_more : Stand table (k + 1) chains_after bodies_after found_after
       stand_more = record {
+        nodes = stand.nodes;
+        numbered = stand.numbered;
         chains_long = length-set chains t (filter (stays (node_at s (at k)).first (entry_of new).scope) (get_or chains t []) ++ entry_of new ∷ []) ∙ stand.chains_long;
         bodies_long = bodies_same (has_kid (node_at s (at k)) 0) ∙ stand.bodies_long;
         found_long = length-set found (at k) (Some told_new) ∙ stand.found_long;
@@ -431,9 +435,11 @@ module _ (table : List SynNode) (long : length (nodes_in table) ≡ length table
 
 -- ---- the start and the end
 
-pub none_stand : (table : List SynNode) (chains : List (List Entry)) (n : ℕ) → n ≡ length table → length chains ≡ length table → ((i : ℕ) → get_or chains i [] ≡ []) → Stand table 0 chains (replicate n false) (replicate (length table) None)
+pub none_stand : (table : List SynNode) (long : length (nodes_in table) ≡ length table) (numbered : AreNumbered (nodes_in table)) (chains : List (List Entry)) (n : ℕ) → n ≡ length table → length chains ≡ length table → ((i : ℕ) → get_or chains i [] ≡ []) → Stand table 0 chains (replicate n false) (replicate (length table) None)
 unfolding tags_before_place
-none_stand table chains n same many empty = record {
+none_stand table long numbered chains n same many empty = record {
+  nodes = long;
+  numbered = numbered;
   chains_long = many;
   bodies_long = length-replicate n false ∙ same;
   found_long = length-replicate (length table) None;
@@ -444,10 +450,70 @@ none_stand table chains n same many empty = record {
   low = λ e i. absurd i;
 }
 
-pub all_stand : (table : List SynNode) (long : length (nodes_in table) ≡ length table) (numbered : AreNumbered (nodes_in table)) (k : ℕ) (chains : List (List Entry)) (bodies : List Bool) (found : List (Option Told))
+pub all_stand : (table : List SynNode) (k : ℕ) (chains : List (List Entry)) (bodies : List Bool) (found : List (Option Told))
     → length table ≤ k → Stand table k chains bodies found → AreTags table found
 unfolding tags_before_place places_in nodes_in order_in
-all_stand table long numbered k chains bodies found most stand = record {
+all_stand table k chains bodies found most stand = record {
   long = stand.found_long;
-  are = λ i within. stand.tells i within ∙ ap (λ xs. found_among (tags_from (nodes_in table) (scopes_of (nodes_in table)) [] xs) i) (take_whole (order_in table) k (let l = order_long table long numbered in omega (arith, l, most)));
+  are = λ i within. stand.tells i within ∙ ap (λ xs. found_among (tags_from (nodes_in table) (scopes_of (nodes_in table)) [] xs) i) (take_whole (order_in table) k (let l = order_long table stand.nodes stand.numbered in omega (arith, l, most)));
 }
+
+-- ---- at a place of an order that is given
+
+module _ (table : List SynNode) (order : List ℕ) (k : ℕ) (chains : List (List Entry)) (bodies : List Bool) (found : List (Option Told)) (e : order ≡ order_in table) (within : k < length table) (stand : Stand table k chains bodies found) where
+  pub place_within : k < length order
+  place_within = subst (λ n. k < n) (sym (ap length e ∙ order_long table stand.nodes stand.numbered)) within
+
+  pub number_within : get_or order k 0 < length table
+  number_within = subst (λ xs. get_or xs k 0 < length table) (sym e) (order_within table stand.nodes stand.numbered k within)
+
+  pub numbered_there : (node_at (nodes_in table) (get_or order k 0)).id ≡ get_or order k 0
+  numbered_there = stand.numbered (get_or order k 0) (subst (λ n. get_or order k 0 < n) (sym stand.nodes) number_within)
+
+  here : get_or order k 0 ≡ get_or (order_in table) k 0
+  here = ap (λ xs. get_or xs k 0) e
+
+  pub put_other : tag_kind (kind_at (nodes_in table) (get_or order k 0)) ≡ None → Stand table (k + 1) chains bodies found
+  put_other none = stand_other table stand.nodes stand.numbered k chains bodies found within (subst (λ n. tag_kind (kind_at (nodes_in table) n) ≡ None) here none) stand
+
+  pub put_nameless : (b : Bool) → tag_kind (kind_at (nodes_in table) (get_or order k 0)) ≡ Some b → (length (text_at (nodes_in table) (get_or order k 0)) == 0) ≡ true → Stand table (k + 1) chains bodies found
+  put_nameless b is none =
+      stand_nameless table stand.nodes stand.numbered k b chains bodies found within (subst (λ n. tag_kind (kind_at (nodes_in table) n) ≡ Some b) here is)
+      (subst (λ n. (length (text_at (nodes_in table) n) == 0) ≡ true) here none) stand
+
+  -- the tag that a node there is met with
+  abbrev pub met_there : ℕ → Bool → MetTag
+  met_there n b = met_of (tag_here table n b (tag_in_scope (tags_before_place table k) (text_at (nodes_in table) n) n))
+
+  pub seen_there : (t : ℕ) → first_of (nodes_in table) (text_at (nodes_in table) (get_or order k 0)) ≡ Some t
+      → seen_at (get_or chains t []) (get_or order k 0) ≡ option_map entry_of (tag_in_scope (tags_before_place table k) (text_at (nodes_in table) (get_or order k 0)) (get_or order k 0))
+  seen_there t is =
+      subst (λ n. seen_at (get_or chains t []) n ≡ option_map entry_of (tag_in_scope (tags_before_place table k) (text_at (nodes_in table) n) n)) (sym here)
+      (seen_here table stand.nodes stand.numbered k true chains bodies found within stand t (subst (λ n. first_of (nodes_in table) (text_at (nodes_in table) n) ≡ Some t) here is))
+
+  pub names_there : (b : Bool) (met : MetTag) → met ≡ met_there (get_or order k 0) b → met.entry.names < length bodies
+  names_there b met is =
+      let low = names_low table stand.nodes stand.numbered k b chains bodies found within stand in
+      let same : met.entry.names ≡ (new_tag table stand.nodes stand.numbered k b).names = ap (λ (m : MetTag). m.entry.names) (is ∙ ap (λ n. met_there n b) here) in
+      let long = stand.bodies_long in
+      omega (arith, low, same, long)
+
+  pub put_more : (b : Bool) (t : ℕ) (met : MetTag) (first : ℕ) (has : Bool) (chain : List Entry) (new_chains : List (List Entry)) (new_bodies : List Bool) (new_found : List (Option Told))
+      → tag_kind (kind_at (nodes_in table) (get_or order k 0)) ≡ Some b → (length (text_at (nodes_in table) (get_or order k 0)) == 0) ≡ false → first_of (nodes_in table) (text_at (nodes_in table) (get_or order k 0)) ≡ Some t
+      → met ≡ met_there (get_or order k 0) b → first ≡ (node_at (nodes_in table) (get_or order k 0)).first → has ≡ has_kid (node_at (nodes_in table) (get_or order k 0)) 0
+      → chain ≡ filter (stays first met.entry.scope) (get_or chains t []) ++ met.entry ∷ [] → new_chains ≡ slice_set chains t chain
+      → new_bodies ≡ (if has then slice_set bodies met.entry.names true else bodies) → new_found ≡ slice_set found (get_or order k 0) (Some (noted met has bodies))
+      → Stand table (k + 1) new_chains new_bodies new_found
+  put_more b t met first has chain new_chains new_bodies new_found kind some text is_met is_first is_has is_chain is_chains is_bodies is_found =
+      let is = is_met ∙ ap (λ n. met_there n b) here in
+      let low = is_first ∙ ap (λ n. (node_at (nodes_in table) n).first) here in
+      let body = is_has ∙ ap (λ n. has_kid (node_at (nodes_in table) n) 0) here in
+      subst (λ xs. Stand table (k + 1) xs new_bodies new_found)
+      (sym (is_chains ∙ ap (slice_set chains t) (is_chain ∙ ap₂ (λ f (m : MetTag). filter (stays f m.entry.scope) (get_or chains t []) ++ m.entry ∷ []) low is)))
+      (subst (λ xs. Stand table (k + 1) (slice_set chains t (filter (stays (node_at (nodes_in table) (get_or (order_in table) k 0)).first (met_there (get_or (order_in table) k 0) b).entry.scope) (get_or chains t []) ++ (met_there (get_or (order_in table) k 0) b).entry ∷ [])) xs new_found)
+      (sym (is_bodies ∙ ap₂ (λ h (m : MetTag). if h then slice_set bodies m.entry.names true else bodies) body is))
+      (subst (λ xs. Stand table (k + 1) (slice_set chains t (filter (stays (node_at (nodes_in table) (get_or (order_in table) k 0)).first (met_there (get_or (order_in table) k 0) b).entry.scope) (get_or chains t []) ++ (met_there (get_or (order_in table) k 0) b).entry ∷ []))
+      (if has_kid (node_at (nodes_in table) (get_or (order_in table) k 0)) 0 then slice_set bodies (met_there (get_or (order_in table) k 0) b).entry.names true else bodies) xs)
+      (sym (is_found ∙ ap₂ (λ n o. slice_set found n o) here (ap₂ (λ h (m : MetTag). Some (noted m h bodies)) body is)))
+      (stand_more table stand.nodes stand.numbered k b chains bodies found within stand (subst (λ n. tag_kind (kind_at (nodes_in table) n) ≡ Some b) here kind) (subst (λ n. (length (text_at (nodes_in table) n) == 0) ≡ false) here some) t
+      (subst (λ n. first_of (nodes_in table) (text_at (nodes_in table) n) ≡ Some t) here text))))

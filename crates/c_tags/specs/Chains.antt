@@ -1,7 +1,7 @@
 -- The tags of one text that can still be seen.
-use Rattle.std.specs.Prelude.{ℕ, Bool, ◌&&◌, List, [], ◌∷◌, Option, Some, None, if◌then◌else◌, Vec, filter, map, nat_le, nat_lt, not, ◌==◌}
+use Rattle.std.specs.Prelude.{ℕ, Bool, ◌&&◌, List, [], ◌∷◌, Option, Some, None, if◌then◌else◌, Vec, filter, map, nat_le, not, ◌==◌}
 use Rattle.std.specs.declared.alloc.Global.{Global}
-use Rattle.c_typing.specs.Places.{Scope, Node, in_scope, end_of}
+use Rattle.c_typing.specs.Places.{Scope, in_scope, end_of}
 use Rattle.c_typing.specs.Names.{Tag}
 use Rattle.c_nodes.specs.declared.spans.Span.{Span}
 use Rattle.c_nodes.specs.Scopes.{scope_of}

@@ -9,7 +9,7 @@ use Rattle.c_typing.specs.Places.{has_kid, in_scope, node_at, scope_at, scopes_o
 use Rattle.c_typing.specs.Names as rules
 use Rattle.c_typing.specs.Names.{Places, tag_of, innermost_tag, is_lone, tag_after, tags_from}
 use Rattle.c_typing.specs.Declarators.{tags_before}
-use Rattle.c_nodes.specs.Parents.{nodes_in}
+use Rattle.c_nodes.specs.Parents.{AreNumbered, nodes_in}
 use Rattle.c_names.specs.Texts.{first_of}
 use Rattle.c_names.specs.Denoted.{Among, places_in}
 use Rattle.c_tags.specs.declared.chain.Entry.{Entry}
@@ -74,6 +74,8 @@ noted m has_body bodies = record { names = m.entry.names; is_new = m.is_new; cla
 
 -- before a place of the order: the chains see what is in scope there and later, and what is told of the tags so far
 pub record Stand (table : List SynNode) (k : ℕ) (chains : List (List Entry)) (bodies : List Bool) (found : List (Option Tag)) : Type 0 where
+  pub nodes : length (nodes_in table) ≡ length table
+  pub numbered : AreNumbered (nodes_in table)
   pub chains_long : length chains ≡ length table
   pub bodies_long : length bodies ≡ length table
   pub found_long : length found ≡ length table

@@ -2,6 +2,8 @@
 ghost use Rattle.std.specs.Prelude.{◌≡◌, ◌<◌, ◌+◌, [], IfOk, OnOk, Option, None, Some, if◌then◌else◌, length, option_map, replicate, slice_set, true};
 ghost use Rattle.std.specs.List.{AllByRecursion};
 ghost use Rattle.c_typing.specs.Names as rules;
+ghost use Rattle.c_typing.specs.Places.{node_at};
+ghost use Rattle.c_nodes.specs.Parents.{nodes_in};
 ghost use Rattle.c_tags.specs.Order.{order_in};
 ghost use Rattle.c_tags.specs.Chains.{chains_of, entry_of, met_of, seen_at};
 ghost use Rattle.c_tags.specs.Tags as tags;
@@ -100,7 +102,8 @@ fn put_at(
 
 // The tag of a node, by the chain of its text.
 fn met_at(nodes: &TaggedNodes, number: usize, is_enum: bool, chain: &[Entry]) -> MetTag
-    requires { number < length nodes.now }
+    requires within { number < length nodes.now }
+    requires numbered { (node_at (nodes_in nodes.now) number).id ≡ number }
     ensures { (e : Option rules.Tag) → seen_at chain.now number ≡ option_map entry_of e → result ≡ met_of (tag_here nodes.now number is_enum e) }
 {
     let declares = nodes.has_kid(number, 0) || (!is_enum && nodes.is_lone(number));

@@ -1,7 +1,6 @@
 use Rattle.std.proofs.Common.{◌≡◌, ◌-◌, ◌+◌, ◌≤◌, ◌<◌, ◌∙◌, ℕ, ap, arith, length, subst, sym}
 use Rattle.std.specs.Prelude.{slice_set}
 use Rattle.std.proofs.lemmas.List.{length-set}
-use Rattle.c_typing.specs.Places.{node_at}
 use Rattle.c_nodes.specs.Parents.{nodes_in}
 use Rattle.c_tags.specs.Order.{IsDeep, depth_below}
 use Rattle.c_tags.proofs.OrderLaws.{above_parent, deep_more}

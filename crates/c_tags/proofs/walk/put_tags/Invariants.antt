@@ -1,7 +1,6 @@
 -- The state before a place of the order.
 use Rattle.c_tags.specs.Chains.{chains_of}
 use Rattle.c_tags.specs.Tags.{Stand}
-use Rattle.c_tags.proofs.TagLaws.{none_stand}
 use Rattle.c_tags.proofs.walk.put_tags.Given as goal
 
 abbrev pub invariant-loop-place : goal.invariant-loop-place
