@@ -368,14 +368,6 @@ module _ (table : List SynNode) (long : length (nodes_in table) ≡ length table
         not_less : (a b : ℕ) → b ≤ a → nat_lt a b ≡ false
         not_less a b h = grind arith
 
-    pub spot_within : (n : ℕ) → n < length table → (node_at (nodes_in table) n).first + get_or depths n 0 < length table
-    spot_within n within =
-        let at = order_at n within in
-        let is = spot_is at.0 at.1 in
-        let same : spot (nodes_in table) numbered depths deep (get_or (order_in table) at.0 0) ≡ spot (nodes_in table) numbered depths deep n = ap (spot (nodes_in table) numbered depths deep) at.2 in
-        let low = at.1 in
-        omega (arith, is, same, low)
-
     pub filled_more : (order : List ℕ) (n place : ℕ) → length order ≡ length table → n < length table → place ≡ (node_at (nodes_in table) n).first + get_or depths n 0 → Filled order n → Filled (slice_set order place n) (n + 1)
     filled_more order n place many within is filled i low less = by (eqb_tells i place)
       where

@@ -1,5 +1,5 @@
 -- Scopes and texts of nodes, as they are found.
-use Rattle.std.proofs.Common.{◌≡◌, ℕ, zero, suc, ◌+◌, ◌<◌, ◌≤◌, Bool, true, false, cond, List, [], ◌∷◌, length, map, get_or, unwrap_or, Some, refl, sym, ap, ◌∙◌, subst, arith}
+use Rattle.std.proofs.Common.{◌≡◌, ℕ, suc, ◌+◌, ◌<◌, ◌≤◌, Bool, true, false, cond, List, [], ◌∷◌, length, map, get_or, unwrap_or, Some, refl, sym, ap, ◌∙◌, subst, arith}
 use Rattle.std.specs.Prelude.{find, if◌then◌else◌}
 use Rattle.std.proofs.lemmas.List.FromFn.{get_or-map-range_with_len, length-map-range_with_len}
 use Rattle.c_syntax.specs.declared.syntax.SynNode.{SynNode}
@@ -72,15 +72,3 @@ pub first_within : (s : List Node) → AreNumbered s → (text : List ℕ) (n : 
 first_within s numbered text n e =
     let p = first_text s text n e in
     subst (λ i. i < length s) p.2 (there s numbered p.0 p.1).1
-
--- ---- a node that is not there has no kids
-
-pub past_kids : (s : List Node) (n : ℕ) → length s ≤ n → (node_at s n).kids ≡ []
-past_kids [] n h = refl
-past_kids (m ∷ s) zero h = absurd (omega (arith, h))
-past_kids (m ∷ s) (suc n) h = past_kids s n (omega (arith, h))
-
-pub past_parent : (s : List Node) (n : ℕ) → length s ≤ n → (node_at s n).parent ≡ 0
-past_parent [] n h = refl
-past_parent (m ∷ s) zero h = absurd (omega (arith, h))
-past_parent (m ∷ s) (suc n) h = past_parent s n (omega (arith, h))

@@ -1,4 +1,4 @@
-use Rattle.std.proofs.Common.{◌<◌, ◌+◌, ℕ, ap, arith, get_or, length, subst, sym}
+use Rattle.std.proofs.Common.{◌<◌, ◌+◌, ℕ, List, ap, arith, get_or, length, subst, sym}
 use Rattle.std.proofs.lemmas.List.{length_push}
 use Rattle.c_typing.specs.Places.{text_at}
 use Rattle.c_nodes.specs.Parents.{nodes_in}
@@ -13,7 +13,7 @@ loop-number-preserved c =
     record {
       says = (c.in_ok-first_with.ensures {u = tt}).says;
       long = (let more = ap length ((c.in_ok-push.ensures {u = tt}).items) in let one = length_push l.found.items c.in_ok-first_with.field-0 in let old = l.invariant.long in omega (arith, more, one, old));
-      firsts = subst (λ xs. (i : ℕ) → i < l.number + 1 → IsFirst (nodes_in c.args.nodes.now) i (get_or xs i 0)) (sym ((c.in_ok-push.ensures {u = tt}).items))
+      firsts = subst (λ xs. (i : ℕ) → i < l.number + 1 → IsFirst (nodes_in c.args.nodes.now) i (get_or xs i 0)) (sym {A = List ℕ} ((c.in_ok-push.ensures {u = tt}).items))
           (all_pushed (λ i. IsFirst (nodes_in c.args.nodes.now) i) l.found.items l.number c.in_ok-first_with.field-0 0 l.invariant.long l.invariant.firsts ((c.in_ok-first_with.ensures {u = tt}).is));
     }
 
