@@ -3,8 +3,9 @@
 // They call what these crates make public, and nothing else. The expected values are worked by hand.
 //
 // `nodes` has the nodes of a tree, its declarators and its scopes (`c_nodes`), `names` what its names denote and declare
-// (`c_names`), `locals` the locals of functions (`c_locals`), `objects` the objects of a unit (`c_objects`), `contexts` what is
-// called and what stands before functions (`c_contexts`), `values` types by their ids, values and operators (`c_type_ids`, `c_constants`, `c_values`).
+// (`c_names`), `tags` its tags (`c_tags`), `locals` the locals of functions (`c_locals`), `objects` the objects of a unit
+// (`c_objects`), `contexts` what is called and what stands before functions (`c_contexts`), `values` types by their ids, values
+// and operators (`c_type_ids`, `c_constants`, `c_values`).
 #![tactic(auto)]
 
 #[cfg(test)]
@@ -17,5 +18,7 @@ mod names;
 mod nodes;
 #[cfg(test)]
 mod objects;
+#[cfg(test)]
+mod tags;
 #[cfg(test)]
 mod values;

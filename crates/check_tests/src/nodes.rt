@@ -16,7 +16,7 @@ static OBJECT: &str = "int x;";
 // 11 `break`, 12 `for`, 13 the block, 14 the function, 15 the unit.
 static FUNCTION: &str = "void f(int a){for(;;)break;}";
 
-fn tree_of(alloc: Global, text: &str) -> Option<Syntax>
+pub(crate) fn tree_of(alloc: Global, text: &str) -> Option<Syntax>
     ensures { IfSome result (λ syntax. (t : Tree) × (syntax ≡ table_of t)) }
 {
     let Ok(tokens) = lex(alloc, text.as_bytes()) else {

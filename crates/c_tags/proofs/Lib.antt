@@ -1,0 +1,4 @@
+pub mod OrderLaws
+pub mod ChainLaws
+pub mod TaggedLaws
+pub mod TagLaws
