@@ -318,14 +318,14 @@ rises all start stop parent zero (suc j) k l (n ∷ ns) e less at other =
 rises all start stop parent (suc i) (suc j) k l (n ∷ ns) e less at other = rises all (n + 1) stop parent i j k l ns e.1 (omega (arith, less)) at other
 
 module _ (table : List SynNode) (n : ℕ) (d : IsDerived table) (within : n < length (nodes_in table)) where
-  here : slice_get (nodes_in table) n ≡ Some (node_in table n)
-  here = let at = slice_get-get_or (nodes_in table) n nowhere within in at ∙ ap Some (sym (ap (λ o. unwrap_or o nowhere) at))
+  pub node_there : slice_get (nodes_in table) n ≡ Some (node_in table n)
+  node_there = let at = slice_get-get_or (nodes_in table) n nowhere within in at ∙ ap Some (sym (ap (λ o. unwrap_or o nowhere) at))
 
   pub has_kids : HasKids table n (least_kids (node_in table n).label.kind)
   unfolding nodes_in
   has_kids =
       let m = node_in table n in
-      let fits = node_fits d.tokens (tree_in table) n m d.derived here in
+      let fits = node_fits d.tokens (tree_in table) n m d.derived node_there in
       subst (λ c. least_kids m.label.kind ≤ c) (length-map (in_table m).kids _ ∙ length-map m.kids _) (kids_least m.label.kind m.label.text (map _ (in_table m).kids) fits.kids)
 
   module _ (i : ℕ) (has : HasKids table n (suc i)) where
@@ -336,7 +336,7 @@ module _ (table : List SynNode) (n : ℕ) (d : IsDerived table) (within : n < le
     unfolding nodes_in
     kid_is =
         let m = node_in table n in
-        let k = kid_of (nodes_in table) m.first n m.kids i (kid m i) (tiled d.tokens (tree_in table) d.derived n m here).kids kid_there in
+        let k = kid_of (nodes_in table) m.first n m.kids i (kid m i) (tiled d.tokens (tree_in table) d.derived n m node_there).kids kid_there in
         record { parent = ap (λ o. (unwrap_or o nowhere).parent) k.at ∙ k.below; less = k.less }
 
     pub kid_after : (j : ℕ) → j < i → kid (node_in table n) j + 1 ≤ kid (node_in table n) i
@@ -344,5 +344,5 @@ module _ (table : List SynNode) (n : ℕ) (d : IsDerived table) (within : n < le
     kid_after j less =
         let m = node_in table n in
         let before : slice_get m.kids j ≡ Some (kid m j) = there m.kids j (omega (arith, less, has)) in
-        let risen = rises (nodes_in table) m.first n n j i (kid m j) (kid m i) m.kids (tiled d.tokens (tree_in table) d.derived n m here).kids less before kid_there in
+        let risen = rises (nodes_in table) m.first n n j i (kid m j) (kid m i) m.kids (tiled d.tokens (tree_in table) d.derived n m node_there).kids less before kid_there in
         omega (arith, risen)

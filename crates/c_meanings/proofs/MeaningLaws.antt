@@ -13,7 +13,8 @@ use Rattle.c_typing.specs.Judgements.{Judgement, Fault, judgement_at, typing_of,
 use Rattle.c_typing.specs.Judgements as rules
 use Rattle.c_typing.specs.Names.{Places}
 use Rattle.c_typing.specs.Typing.{judged_by, judged_from}
-use Rattle.c_nodes.specs.Parents.{nodes_in}
+use Rattle.c_syntax.specs.declared.kind.SynKind.{SynKind}
+use Rattle.c_nodes.specs.Parents.{nodes_in, tree_in}
 use Rattle.c_names.specs.Denoted.{IsDerived, places_in}
 use Rattle.c_type_ids.specs.Ids.{Known, AreLaid, Grows, LaidAs, struct_by}
 use Rattle.c_type_ids.proofs.TableLaws.{grows_same}
@@ -31,7 +32,8 @@ use Rattle.c_declared_types.specs.declared.steps.Steps.{Steps}
 use Rattle.c_declared_types.specs.Steps.{AreSteps}
 use Rattle.c_values.specs.Typings.{Is}
 use Rattle.c_meanings.specs.declared.meanings.Meanings.{Meanings}
-use Rattle.c_meanings.proofs.KidLaws.{KidIs, kid_is}
+use Rattle.c_typing.proofs.ProgressKids.{tiled}
+use Rattle.c_meanings.proofs.KidLaws.{KidIs, has_kids, kid_after, kid_is, least_kids, node_there}
 use Rattle.c_meanings.specs.Meanings.{as_code, as_expression, AreLeft, HasKids, IsAnswered, IsFree, IsReady, IsRow, IsSlot, MayTake, kid_in, is_whole, is_whole_at, judged_at, judged_to, keeps_cells, node_in, slots_of}
 
 and_right : (a b : Bool) → (a && b) ≡ true → b ≡ true
@@ -461,3 +463,20 @@ waiting_row table n low m r within none = plain_row table n low m (Ok judged.Wai
 pub spent_row : (table : List SynNode) (n low : ℕ) (old mid new : Meanings) → IsReady table n low mid → n < length table → AreLeft table n old mid → slots_of new ≡ slots_of mid → Grows mid.types new.types
     → IsRow table n old new (Err refusal.OutOfMemory)
 spent_row table n low old mid new r within left same grows = grown_row table n low old mid new (Err refusal.OutOfMemory) r within left same grows refl tt
+
+-- ---- the kids of a node that is judged
+
+module _ (table : List SynNode) (n low : ℕ) (m : Meanings) (r : IsReady table n low m) (within : n < length table) where
+  within_nodes : n < length (nodes_in table)
+  within_nodes = let nodes = r.nodes in omega (arith, within, nodes)
+
+  -- so many as nodes of its kind have
+  pub kids_of : (k : SynKind) → (node_in table n).label.kind ≡ k → HasKids table n (least_kids k)
+  kids_of k is = subst (λ k. HasKids table n (least_kids k)) is (has_kids table n r.derived within_nodes)
+
+  pub next_kid : (i : ℕ) → HasKids table n (suc (suc i)) → kid_in table n i + 1 ≤ kid_in table n (suc i)
+  next_kid i has = kid_after table n r.derived within_nodes (suc i) has i (omega arith)
+
+  pub its_number : (node_in table n).id ≡ n
+  unfolding nodes_in
+  its_number = (tiled r.derived.tokens (tree_in table) r.derived.derived n (node_in table n) (node_there table n r.derived within_nodes)).numbered

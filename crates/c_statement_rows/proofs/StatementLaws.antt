@@ -1,0 +1,108 @@
+-- What statements mean by their kinds and by what their parts mean.
+use Rattle.std.proofs.Common.{◌≡◌, ◌++◌, ℕ, Bool, true, false, List, [], ◌∷◌, Option, Some, None, refl, sym, ap, ◌∙◌, subst}
+use Rattle.std.specs.Prelude.{IfOk, MatchOption, Result, Ok, Err, is_some, if◌then◌else◌, not, option_map}
+use Rattle.std.proofs.lemmas.Bool.{false≢true}
+use Rattle.c_syntax.specs.declared.kind.SynKind.TheVariants as kind
+use Rattle.c_syntax.specs.declared.syntax.SynNode.{SynNode}
+use Rattle.c_types.specs.declared.tree.Stmt.{Stmt}
+use Rattle.c_types.specs.Forms.{do_loop, drop_expr, loop}
+use Rattle.c_typing.specs.Types.{is_scalar}
+use Rattle.c_typing.specs.Judgements as rules
+use Rattle.c_typing.specs.Judgements.{Fault, rule, Judgement, besides, breaks_rules, code_at, faults_in, given, means, performs, typing_at, waits}
+use Rattle.c_typing.specs.Conversions.{value_of}
+use Rattle.c_typing.specs.Rules.{bad_operand}
+use Rattle.c_typing.specs.Statements.{as_one, condition_faults, do_statement, does, empty_statement, expression_statement, statement_at, while_statement}
+use Rattle.c_typing.specs.Typing.{judged_by}
+use Rattle.c_names.specs.Denoted.{places_in}
+use Rattle.c_type_ids.specs.Ids.{Known}
+use Rattle.c_answers.specs.declared.refusal.Refusal.{Refusal}
+use Rattle.c_answers.specs.declared.refusal.Refusal.TheVariants as refusal
+use Rattle.c_judgements.specs.declared.judged.Judged.{Judged}
+use Rattle.c_meanings.specs.Meanings.{IsAnswered, judged_at, judged_to, kid_in, node_in}
+
+-- ---- a condition that is not scalar
+
+besides_first : (f : Fault) (j : Judgement) → (others : List Fault) × (faults_in (besides (f ∷ []) j) ≡ f ∷ others)
+besides_first f (breaks_rules g gs) = (g ∷ gs, refl)
+besides_first f (means m) = ([], refl)
+besides_first f waits = ([], refl)
+
+abbrev condition_by : Bool → ℕ → List Fault
+condition_by b i = bad_operand b i
+
+module _ (table : List SynNode) (n : ℕ) where
+  abbrev pub js : List Judgement
+  js = judged_to table n
+
+  abbrev pub node_number : ℕ
+  node_number = (node_in table n).id
+
+  -- the row of a statement with a condition
+  abbrev conditioned : Option rules.Typing → (rules.Typing → Judgement) → Judgement
+  conditioned o f = given o (λ x. besides (condition_faults (value_of x) node_number) (f x))
+
+  pub refused : (k : Known) (o : Option rules.Typing) (f : rules.Typing → Judgement) (x : rules.Typing) → node_number ≡ n → o ≡ Some x → is_scalar (value_of x).type ≡ false
+      → IsAnswered k (Err (refusal.Broken 13 n)) (conditioned o f)
+  refused k o f x own e other =
+      subst (λ (p : Option rules.Typing). IsAnswered k (Err (refusal.Broken 13 n)) (conditioned p f)) (sym e)
+      (subst (λ b. IsAnswered k (Err (refusal.Broken 13 n)) (besides (rules_of b) (f x))) (sym other)
+      (let first = besides_first (rule 13 node_number) (f x) in subst (λ i. (others : List Fault) × (faults_in (besides (rule 13 node_number ∷ []) (f x)) ≡ rule 13 i ∷ others)) own first))
+    where
+      rules_of : Bool → List Fault
+      rules_of b = condition_by b node_number
+
+  pub allowed : (o : Option rules.Typing) (f : rules.Typing → Judgement) (x : rules.Typing) → o ≡ Some x → is_scalar (value_of x).type ≡ true → conditioned o f ≡ f x
+  allowed o f x e scalar = ap (λ (p : Option rules.Typing). conditioned p f) e ∙ ap (λ b. besides (condition_by b node_number) (f x)) scalar
+
+  pub absent : (o : Option rules.Typing) (f : rules.Typing → Judgement) → o ≡ None → conditioned o f ≡ waits
+  absent o f e = ap (λ (p : Option rules.Typing). conditioned p f) e
+
+  -- ---- each kind
+
+  pub empty_is : (node_in table n).label.kind ≡ kind.Empty → judged_at table n ≡ means (performs (empty_statement ∷ []))
+  unfolding judged_at judged_by
+  empty_is is = ap (judged_by (places_in table) js (node_in table n)) is
+
+  pub expression_is : (node_in table n).label.kind ≡ kind.ExprStmt → judged_at table n ≡ given (typing_at js (kid_in table n 0)) (λ x. means (performs (drop_expr (value_of x).code ∷ [])))
+  unfolding judged_at judged_by expression_statement
+  expression_is is = ap (judged_by (places_in table) js (node_in table n)) is
+
+  pub while_is : (node_in table n).label.kind ≡ kind.While
+      → judged_at table n ≡ conditioned (typing_at js (kid_in table n 0)) (λ x. given (statement_at js (kid_in table n 1)) (λ body. means (performs (loop (Some (value_of x).code) None body ∷ []))))
+  unfolding judged_at judged_by while_statement
+  while_is is = ap (judged_by (places_in table) js (node_in table n)) is
+
+  pub do_is : (node_in table n).label.kind ≡ kind.Do
+      → judged_at table n ≡ conditioned (typing_at js (kid_in table n 1)) (λ x. given (statement_at js (kid_in table n 0)) (λ body. means (performs (do_loop body (value_of x).code ∷ []))))
+  unfolding judged_at judged_by do_statement
+  do_is is = ap (judged_by (places_in table) js (node_in table n)) is
+
+  pub expression_waits : (node_in table n).label.kind ≡ kind.ExprStmt → typing_at js (kid_in table n 0) ≡ None → judged_at table n ≡ waits
+  expression_waits is none = expression_is is ∙ ap (λ o. given o (λ (x : rules.Typing). means (performs (drop_expr (value_of x).code ∷ [])))) none
+
+  pub expression_code : (node_in table n).label.kind ≡ kind.ExprStmt → (x : rules.Typing) → typing_at js (kid_in table n 0) ≡ Some x → judged_at table n ≡ means (performs (drop_expr (value_of x).code ∷ []))
+  expression_code is x e = expression_is is ∙ ap (λ o. given o (λ (x : rules.Typing). means (performs (drop_expr (value_of x).code ∷ [])))) e
+
+-- ---- what is seen of an operand
+
+pub no_operand : {X : Type 0} {o : Option rules.Typing} (P : X → rules.Typing → Type 0) (found : Option X) → MatchOption found (o ≡ None) (λ x. (y : rules.Typing) × (o ≡ Some y) × P x y) → is_some found ≡ false → o ≡ None
+no_operand P None h none = h
+no_operand P (Some x) h none = absurd (false≢true (sym none))
+
+pub operand_seen : {X : Type 0} {o : Option rules.Typing} (P : X → rules.Typing → Type 0) (found : Option X) → MatchOption found (o ≡ None) (λ x. (y : rules.Typing) × (o ≡ Some y) × P x y) → is_some found ≡ true → (y : rules.Typing) × (o ≡ Some y)
+operand_seen P None h some = absurd (false≢true some)
+operand_seen P (Some x) h some = (h.0, h.1)
+
+-- ---- what is seen of a statement
+
+pub no_statement : (b : Bool) (o : Option (List Stmt)) → b ≡ is_some o → b ≡ false → o ≡ None
+no_statement b None e h = refl
+no_statement true (Some code) e h = absurd (false≢true (sym h))
+no_statement false (Some code) e h = absurd (false≢true e)
+
+module _ (table : List SynNode) (n : ℕ) where
+  pub waits_for : (i : ℕ) (f : Stmt → Judgement) → code_at (judged_to table n) i ≡ None → given (statement_at (judged_to table n) i) f ≡ waits
+  waits_for i f none = ap (λ o. given (option_map as_one o) f) none
+
+  pub goes_on : (i : ℕ) (f : Stmt → Judgement) (body : List Stmt) → code_at (judged_to table n) i ≡ Some body → given (statement_at (judged_to table n) i) f ≡ f (as_one body)
+  goes_on i f body there = ap (λ o. given (option_map as_one o) f) there

@@ -1,0 +1,20 @@
+// What the nodes of a syntax tree that are statements do: one row a kind.
+//
+// In come the table of a tree, the number of a node, and what the nodes before it mean. Out goes what the node does, or the
+// first rule that it breaks.
+//
+// The idea: a row asks first what can be asked where parts have no meaning, then takes what the kids mean, from the first to
+// the last, and makes a statement of it.
+//
+// The theorem, on each row: `IsRow` of `c_meanings`, where the node is of the row's kind.
+//
+// `simple` has statements without parts that are statements, `loops` those with a condition and parts.
+//
+// Source: C99 6.8.
+#![tactic(auto)]
+
+mod loops;
+mod simple;
+
+pub use loops::{do_loop, while_loop};
+pub use simple::{empty, expression};
