@@ -1,0 +1,4 @@
+pub mod GraphLaws
+pub mod TableLaws
+pub mod PhiLaws
+pub mod CountsLaws

@@ -1,0 +1,10 @@
+// The tests of a graph against the rules.
+#![tactic(auto)]
+
+mod broken;
+mod counts;
+mod first;
+mod lists;
+mod phis;
+
+pub use broken::Broken;
