@@ -98,7 +98,7 @@ other_mode look operands wanted at d long h ne e =
 
 -- ---- by the graph
 
-got : (xs : List ℕ) (i n : ℕ) → slice_get xs i ≡ Some n → (i < length xs) × (get_or xs i 0 ≡ n)
+pub got : (xs : List ℕ) (i n : ℕ) → slice_get xs i ≡ Some n → (i < length xs) × (get_or xs i 0 ≡ n)
 got [] i n e = absurd (cc)
 got (x ∷ xs) zero n e = (omega arith, ap (λ o. unwrap_or o x) e)
 got (x ∷ xs) (suc i) n e = let rest = got xs i n e in (omega (arith, rest.0), rest.1)

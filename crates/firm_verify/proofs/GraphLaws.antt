@@ -106,17 +106,24 @@ no_nodes g nodes e = subst (λ (l : List NodeId). AreNodesOf g [] (numbers l)) (
   all = λ n is h. absurd (omega (arith, h));
 })
 
-stands_of : (node : FirmNode) (b : ℕ) → 0 < (if stands_in node b then 1 else 0) → node.there ≡ true
+pub stands_of : (node : FirmNode) (b : ℕ) → 0 < (if stands_in node b then 1 else 0) → node.there ≡ true
 stands_of node b h = by (node.there && (node.block == b)) refl h
   where
     by : (t : Bool) → (node.there && (node.block == b)) ≡ t → 0 < (if t then 1 else 0) → node.there ≡ true
     by true e h = (and_parts node.there (node.block == b) e).0
     by false e h = absurd (omega (arith, h))
 
-abbrev as_number : Bool → ℕ
+abbrev pub as_number : Bool → ℕ
 as_number b = if b then 1 else 0
 
-stands_own : (node : FirmNode) (b : ℕ) → node.there ≡ true → node.block ≡ b → as_number (stands_in node b) ≡ 1
+pub stands_at : (node : FirmNode) (b : ℕ) → 0 < as_number (stands_in node b) → node.block ≡ b
+stands_at node b h = by (node.there && (node.block == b)) refl h
+  where
+    by : (t : Bool) → (node.there && (node.block == b)) ≡ t → 0 < as_number t → node.block ≡ b
+    by true e h = eqb-true node.block b (and_parts node.there (node.block == b) e).1
+    by false e h = absurd (omega (arith, h))
+
+pub stands_own : (node : FirmNode) (b : ℕ) → node.there ≡ true → node.block ≡ b → as_number (stands_in node b) ≡ 1
 stands_own node b there e =
     let same : (node.there && (node.block == b)) ≡ true = and_from node.there (node.block == b) there (eq-eqb node.block b e) in
     ap as_number same

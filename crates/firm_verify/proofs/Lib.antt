@@ -2,3 +2,4 @@ pub mod GraphLaws
 pub mod TableLaws
 pub mod PhiLaws
 pub mod CountsLaws
+pub mod FirstLaws
