@@ -42,16 +42,16 @@ modes_more g nodes at d modes after mode a h node m is this others n =
     let read = (get_or nodes at d).number in
     elim (cases_eq n read) [
       | inl same ↦ inl (ap (λ k. get_or after k None) same ∙ this ∙ ap Some is
-            ∙ sym (ap (option_map (λ (x : FirmNode). mode_of x.op)) (node_seen g read node)) ∙ ap (mode_at g) (sym same))
+          ∙ sym (ap (option_map (λ (x : FirmNode). mode_of x.op)) (node_seen g read node)) ∙ ap (mode_at g) (sym same))
       | inr ne ↦ elim (m n) [
         | inl given ↦ inl (others n ne ∙ given)
         | inr none ↦ inr (
-            others n ne ∙ none.0,
-            (let front = times_front n (numbers nodes) at 0 (omega (arith, h, numbers_long nodes)) in
-            let is_read = number_at nodes at d h in
-            let one_of : one n (get_or (numbers nodes) at 0) ≡ 0 = one_other n (get_or (numbers nodes) at 0) (λ (e : get_or (numbers nodes) at 0 ≡ n). ne (sym e ∙ is_read)) in
-            ap (λ k. times n (take k (numbers nodes))) (suc_add at) ∙ front ∙ ap₂ (λ x y. x + y) none.1 one_of),
-          )
+          others n ne ∙ none.0,
+          (let front = times_front n (numbers nodes) at 0 (omega (arith, h, numbers_long nodes)) in
+              let is_read = number_at nodes at d h in
+              let one_of : one n (get_or (numbers nodes) at 0) ≡ 0 = one_other n (get_or (numbers nodes) at 0) (λ (e : get_or (numbers nodes) at 0 ≡ n). ne (sym e ∙ is_read)) in
+              ap (λ k. times n (take k (numbers nodes))) (suc_add at) ∙ front ∙ ap₂ (λ x y. x + y) none.1 one_of),
+        )
       ]
     ]
   where

@@ -171,8 +171,8 @@ fits_start g b members m fits =
     let of = start_of g b fits.start.0 fits.start.1 in
     passing_times g is_start members fits.start.0 of.1.1
     (λ n h p.
-        let stands = member_stands g b members n m h in
-        fits.start.2 n (of_start g b n stands.0 stands.1 p))
+    let stands = member_stands g b members n m h in
+    fits.start.2 n (of_start g b n stands.0 stands.1 p))
     ∙ is_member g b members fits.start.0 m of.0 of.1.0
 
 pub fits_no_start : (g : Firm) (b : ℕ) (members : List ℕ) → AreMembers g b members → OtherFits g b → passing g is_start members ≡ 0
@@ -199,9 +199,9 @@ other_fits g b members preds place answer m p is starts h =
       );
     })
     (λ fits.
-        let entered = fits.entered_earlier in
-        let at = got preds entered.1.0 entered.0 (ap (λ l. slice_get l entered.1.0) p ∙ entered.1.1) in
-        (entered.1.0, at.0, subst (λ q. rank g q < place) (sym at.1) (subst (λ k. rank g entered.0 < k) (sym is) entered.2)))
+    let entered = fits.entered_earlier in
+    let at = got preds entered.1.0 entered.0 (ap (λ l. slice_get l entered.1.0) p ∙ entered.1.1) in
+    (entered.1.0, at.0, subst (λ q. rank g q < place) (sym at.1) (subst (λ k. rank g entered.0 < k) (sym is) entered.2)))
 
 pub counted : (count after : ℕ) (t : Bool) → t ≡ true → after ≡ count + 1 → after ≡ count + as_number t
 counted count after true p e = e

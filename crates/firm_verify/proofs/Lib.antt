@@ -3,3 +3,4 @@ pub mod TableLaws
 pub mod PhiLaws
 pub mod CountsLaws
 pub mod FirstLaws
+pub mod EdgeLaws

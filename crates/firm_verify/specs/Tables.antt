@@ -8,7 +8,7 @@ use Rattle.firm_rules.specs.declared.node.Mode.TheVariants.{Word, Memory, Tuple}
 use Rattle.firm_rules.specs.declared.node.FirmEnd.{FirmEnd}
 use Rattle.firm_rules.specs.declared.node.FirmEnd.TheVariants.{Jump, Branch, Return}
 use Rattle.firm_rules.specs.Graphs.{Firm, Operands, exactly, memory_and_words, all_of}
-use Rattle.firm_rules.specs.Lookups.{mode_at, rank}
+use Rattle.firm_rules.specs.Lookups.{mode_at, rank, IsBlock, preds_of, end_of, targets}
 use Rattle.firm_tables.specs.Nodes.{node_of, stands_in}
 use Rattle.firm_nodes.specs.Calls.{IsNode}
 
@@ -60,3 +60,24 @@ passing g test (n ∷ nodes) = (if test (node_of g.nodes n).op then 1 else 0) + 
 -- one of some blocks stands earlier in the order than the place
 abbrev pub HasEarlier : Firm → ℕ → List ℕ → Type 0
 HasEarlier g place blocks = (index : ℕ) × (index < length blocks) × (rank g (slice_index blocks index) < place)
+
+-- ---- rule 8
+
+abbrev pub AreBlocks : Firm → List ℕ → Type 0
+AreBlocks g blocks = (index : ℕ) → index < length blocks → IsBlock g (slice_index blocks index)
+
+pub record EdgesWithin (g : Firm) (b : ℕ) : Type 0 where
+  pub preds : AreBlocks g (preds_of g b)
+  pub ends : AreBlocks g (targets (end_of g b))
+
+-- the block is as often a predecessor of each of its targets as it leads there
+abbrev pub TargetsAlike : Firm → ℕ → Type 0
+TargetsAlike g b = (to : ℕ) → 0 < times to (targets (end_of g b)) → times b (preds_of g to) ≡ times to (targets (end_of g b))
+
+-- each predecessor leads to the block
+abbrev pub PredsAlike : Firm → ℕ → Type 0
+PredsAlike g to = (from : ℕ) → 0 < times from (preds_of g to) → 0 < times to (targets (end_of g from))
+
+-- a block that is a predecessor of one to which it does not lead
+abbrev pub IsUnlike : Firm → ℕ → Type 0
+IsUnlike g from = IsBlock g from × ((to : ℕ) × (IsBlock g to × ((0 < times from (preds_of g to)) × (times to (targets (end_of g from)) ≡ 0))))

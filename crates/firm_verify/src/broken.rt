@@ -8,4 +8,3 @@ pub struct Broken {
     pub node: Option<NodeId>,
     pub block: BlockId,
 }
-

@@ -35,11 +35,7 @@ pub(crate) fn check_counts(
 }
 
 // The mode of each node by its number.
-fn modes_of(
-    alloc: Global,
-    graph: &Graph,
-    nodes: &[NodeId],
-) -> Result<Vec<Option<Mode>>, AllocError>
+fn modes_of(alloc: Global, graph: &Graph, nodes: &[NodeId]) -> Result<Vec<Option<Mode>>, AllocError>
     requires nodes { AreNodes graph.now (numbers nodes.now) }
     ensures { IfOk result (λ modes. AreModes graph.now modes.items) }
 {
@@ -85,11 +81,8 @@ fn fit(modes: &[Option<Mode>], op: NodeOp, operands: &[usize]) -> bool
         (FitBy (λ n. slice_index_or modes.now n None) (operands_of op) operands.now → ⊥) }
 {
     match op {
-        NodeOp::Start
-        | NodeOp::Param(_)
-        | NodeOp::Const(_)
-        | NodeOp::Addr(_)
-        | NodeOp::Unknown => are(modes, operands, &[]),
+        NodeOp::Start | NodeOp::Param(_) | NodeOp::Const(_) | NodeOp::Addr(_) | NodeOp::Unknown =>
+            are(modes, operands, &[]),
         NodeOp::Apply(Op::Conv(_)) => are(modes, operands, &[Mode::Word]),
         NodeOp::Apply(_) => are(modes, operands, &[Mode::Word, Mode::Word]),
         NodeOp::Load(_) | NodeOp::Put => are(modes, operands, &[Mode::Memory, Mode::Word]),

@@ -3,6 +3,7 @@
 
 mod broken;
 mod counts;
+mod edges;
 mod first;
 mod lists;
 mod phis;

@@ -10,7 +10,7 @@ returns-then-count_phis-eq0 c =
     let members = numbers c.nodes-nodes.result.now in
     decides (c.count_starts.result == 1)
     (λ t. first_fits c.args.graph.now c.args.block.number members c.preds.result.now c.nodes-nodes.ensures c.preds.ensures (no_length c.preds.result.now (c.if-not-is_empty.ensures {u = tt})) (sym c.count_phis.ensures ∙ c.if-count_phis-eq0.true)
-        (sym c.count_starts.ensures ∙ eqb-true c.count_starts.result 1 t))
+    (sym c.count_starts.ensures ∙ eqb-true c.count_starts.result 1 t))
     (λ fits. eq-eqb c.count_starts.result 1 (c.count_starts.ensures ∙ fits_start c.args.graph.now c.args.block.number members c.nodes-nodes.ensures fits))
 
 pub returns-else-count_phis-eq0 : goal.returns-else-count_phis-eq0
