@@ -4,3 +4,5 @@ pub mod PhiLaws
 pub mod CountsLaws
 pub mod FirstLaws
 pub mod EdgeLaws
+pub mod LoopLaws
+pub mod TreeLaws

@@ -1,5 +1,5 @@
 -- What stands in the tables by which a graph is tested.
-use Rattle.std.specs.Prelude.{◌≡◌, ◌≢◌, ◌<◌, ◌≤◌, ◌+◌, ℕ, Bool, if◌then◌else◌, List, [], ◌∷◌, length, map, Option, Some, None, slice_index, slice_index_or}
+use Rattle.std.specs.Prelude.{◌≡◌, ◌≢◌, ◌<◌, ◌≤◌, ◌+◌, ℕ, Bool, if◌then◌else◌, ◌⊎◌, List, [], ◌∷◌, length, map, Option, Some, None, slice_index, slice_index_or}
 use Rattle.firm_uses.specs.Counts.{times}
 use Rattle.firm_rules.specs.declared.node.NodeId.{NodeId}
 use Rattle.firm_rules.specs.declared.node.NodeOp.{NodeOp}
@@ -81,3 +81,21 @@ PredsAlike g to = (from : ℕ) → 0 < times from (preds_of g to) → 0 < times 
 -- a block that is a predecessor of one to which it does not lead
 abbrev pub IsUnlike : Firm → ℕ → Type 0
 IsUnlike g from = IsBlock g from × ((to : ℕ) × (IsBlock g to × ((0 < times from (preds_of g to)) × (times to (targets (end_of g from)) ≡ 0))))
+
+-- ---- rule 6, by places in the order
+
+abbrev pub HasOutside : Firm → (low high : ℕ) → List ℕ → Type 0
+HasOutside g low high blocks = (index : ℕ) × ((index < length blocks) × ((rank g (slice_index blocks index) < low) ⊎ (high < rank g (slice_index blocks index))))
+
+-- a block behind the lower place up to the higher one is entered from outside of the two
+abbrev pub HasSideEntry : Firm → (low high : ℕ) → Type 0
+HasSideEntry g low high = (place : ℕ) × ((low ≤ place) × ((place < high) × HasOutside g low high (preds_of g (slice_index g.order (place + 1)))))
+
+pub record IsBadLoop (g : Firm) (head last : ℕ) : Type 0 where
+  pub is_block : IsBlock g last
+  pub edge : 0 < times last (preds_of g head)
+  pub back : rank g head ≤ rank g last
+  pub side : HasSideEntry g (rank g head) (rank g last)
+
+abbrev pub NoBadLoop : Firm → ℕ → Type 0
+NoBadLoop g head = (last : ℕ) → IsBadLoop g head last → ⊥

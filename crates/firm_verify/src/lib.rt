@@ -6,6 +6,8 @@ mod counts;
 mod edges;
 mod first;
 mod lists;
+mod loops;
 mod phis;
+mod tree;
 
 pub use broken::Broken;
