@@ -71,7 +71,7 @@ modes_done g nodes at modes a h m n = elim (m n) [
 
 -- ---- operands
 
-map_get : {A B : Type 0} → (f : A → B) (xs : List A) (i : ℕ) (d : A) (e : B) → i < length xs → get_or (map f xs) i e ≡ f (get_or xs i d)
+pub map_get : {A B : Type 0} → (f : A → B) (xs : List A) (i : ℕ) (d : A) (e : B) → i < length xs → get_or (map f xs) i e ≡ f (get_or xs i d)
 map_get f [] i d e h = absurd (omega arith)
 map_get f (x ∷ xs) zero d e h = refl
 map_get f (x ∷ xs) (suc i) d e h = map_get f xs i d e (omega arith)

@@ -6,3 +6,5 @@ pub mod FirstLaws
 pub mod EdgeLaws
 pub mod LoopLaws
 pub mod TreeLaws
+pub mod WalkLaws
+pub mod DefinedLaws

@@ -3,6 +3,7 @@
 
 mod broken;
 mod counts;
+mod defined;
 mod edges;
 mod first;
 mod lists;
