@@ -1,25 +1,25 @@
 -- Modes of nodes, and the operands that have them.
-use Rattle.std.proofs.Common.{◌≡◌, ◌≢◌, ◌==◌, ℕ, zero, suc, ◌+◌, ◌<◌, ◌≤◌, Bool, true, false, true≢false, List, [], ◌∷◌, length, map, take, get_or, refl, sym, ap, ap₂, ◌∙◌, subst, arith, option_map, unwrap_or, Option, Some, None, inl, inr, ◌⊎◌, MatchBool}
-use Rattle.std.proofs.lemmas.Bool.{cases_eq, cases_lt}
+use Rattle.std.proofs.Common.{◌≡◌, ◌≢◌, ◌==◌, ℕ, zero, suc, ◌+◌, ◌<◌, ◌≤◌, Bool, false, true≢false, List, [], ◌∷◌, length, map, take, get_or, refl, sym, ap, ap₂, ◌∙◌, subst, arith, option_map, unwrap_or, Option, Some, None, inl, inr, ◌⊎◌, MatchBool}
+use Rattle.std.proofs.lemmas.Bool.{cases_eq}
 use Rattle.std.proofs.lemmas.List.{take_all, length-map}
 use Rattle.std.proofs.lemmas.Option.{slice_get-get_or}
 use Rattle.std.specs.Prelude.{slice_get}
 use Rattle.firm_uses.specs.Counts.{times}
-use Rattle.firm_uses.proofs.CountLaws.{one, one_same, one_other, times_front}
+use Rattle.firm_uses.proofs.CountLaws.{one, one_other, times_front}
 use Rattle.firm_rules.specs.declared.node.NodeId.{NodeId}
 use Rattle.firm_rules.specs.declared.node.NodeOp.{NodeOp}
 use Rattle.firm_rules.specs.declared.node.Mode.{Mode}
-use Rattle.firm_rules.specs.declared.node.Mode.TheVariants.{Word, Memory, Tuple}
+use Rattle.firm_rules.specs.declared.node.Mode.TheVariants.{Word, Memory}
 use Rattle.firm_rules.specs.declared.node.FirmEnd.{FirmEnd}
 use Rattle.firm_rules.specs.declared.node.FirmEnd.TheVariants.{Jump, Branch, Return}
 use Rattle.firm_rules.specs.Graphs.{FirmNode, Firm, Operands, exactly, memory_and_words, all_of, operands_of, mode_of}
-use Rattle.firm_rules.specs.Lookups.{if_there, node_at, mode_at, end_of}
+use Rattle.firm_rules.specs.Lookups.{node_at, mode_at, end_of}
 use Rattle.firm_rules.specs.Rules.{HaveMode, OperandsFit, EndFits}
 use Rattle.firm_tables.specs.Nodes.{numbers, node_of}
 use Rattle.firm_tables.proofs.MemberLaws.{number_at, numbers_long}
 use Rattle.firm_tables.proofs.NodeLaws.{matches}
 use Rattle.firm_nodes.specs.Calls.{IsNode}
-use Rattle.firm_verify.specs.Tables.{AreNodes, AreModes, HaveFrom, FitBy, ValueFitsBy, EndFitsBy}
+use Rattle.firm_verify.specs.Tables.{AreNodes, AreModes, HaveFrom, FitBy, EndFitsBy}
 use Rattle.firm_verify.proofs.GraphLaws.{node_seen, node_read}
 
 -- ---- the table

@@ -1,7 +1,7 @@
 -- Edges and ends.
-use Rattle.std.proofs.Common.{◌≡◌, ◌≢◌, ◌==◌, ℕ, zero, suc, ◌+◌, ◌<◌, ◌≤◌, Bool, true, false, true≢false, ◌&&◌, List, [], ◌∷◌, length, take, get_or, refl, sym, ap, ap₂, ◌∙◌, subst, arith, if◌then◌else◌, cond, Option, Some, None, inl, inr, MatchBool}
-use Rattle.std.specs.Prelude.{count_by, slice_get, IfSome, IfNone, is_some}
-use Rattle.std.proofs.lemmas.Bool.{cases_eq, cases_lt, eqb-true, eq-eqb, and_parts, and_from}
+use Rattle.std.proofs.Common.{◌≡◌, ◌≢◌, ◌==◌, ℕ, suc, ◌+◌, ◌<◌, ◌≤◌, Bool, false, true≢false, List, [], ◌∷◌, length, take, get_or, refl, sym, ap, ◌∙◌, subst, arith, cond, Option, Some, None, inl, inr, MatchBool}
+use Rattle.std.specs.Prelude.{count_by, IfSome, IfNone, is_some}
+use Rattle.std.proofs.lemmas.Bool.{cases_lt}
 use Rattle.std.proofs.lemmas.List.Sums.{sum_by-cons}
 use Rattle.std.proofs.lemmas.Option.{slice_get-get_or}
 use Rattle.firm_uses.specs.Counts.{times}
@@ -9,7 +9,7 @@ use Rattle.firm_uses.proofs.CountLaws.{one, one_same, one_other, times_found, ti
 use Rattle.firm_rules.specs.declared.node.NodeId.{NodeId}
 use Rattle.firm_rules.specs.declared.node.BlockId.{BlockId}
 use Rattle.firm_rules.specs.declared.node.FirmEnd.{FirmEnd}
-use Rattle.firm_rules.specs.declared.node.FirmEnd.TheVariants.{Jump, Branch, Return}
+use Rattle.firm_rules.specs.declared.node.FirmEnd.TheVariants.{Jump, Branch}
 use Rattle.firm_rules.specs.Graphs.{Firm}
 use Rattle.firm_rules.specs.Lookups.{IsBlock, preds_of, end_of, targets}
 use Rattle.firm_rules.specs.Rules.{EdgesFit}
@@ -18,7 +18,6 @@ use Rattle.firm_nodes.proofs.LikeLaws.{times_at}
 use Rattle.firm_verify.specs.Broken.{AtBlocks, Rule8, IsBroken, edges}
 use Rattle.firm_verify.specs.Tables.{AreBlocks, EdgesWithin, TargetsAlike, PredsAlike, IsUnlike}
 use Rattle.firm_verify.proofs.CountsLaws.{got}
-use Rattle.firm_verify.proofs.PhiLaws.{decides}
 
 count_is : (b : ℕ) (list : List ℕ) → count_by (λ c. c == b) list ≡ times b list
 count_is b [] = refl
@@ -137,3 +136,9 @@ some_so None P Q h to = h
 pub none_fits : {T : Type 0} (r : Option T) (P : T → Type 0) (Q : Type 0) → is_some r ≡ false → IfNone r Q → Q
 none_fits (Some x) P Q e h = absurd (true≢false e)
 none_fits None P Q e h = h
+
+pub some_at : {T : Type 0} (r : Option T) (P : T → Type 0) (x : T) → r ≡ Some x → IfSome r P → P x
+some_at r P x e h = subst (λ o. IfSome o P) e h
+
+pub none_at : {T : Type 0} (r : Option T) (Q : Type 0) → r ≡ None → IfNone r Q → Q
+none_at r Q e h = subst (λ o. IfNone o Q) e h

@@ -1,23 +1,22 @@
 -- Nodes of a block that pass a test, and predecessors that stand earlier.
-use Rattle.std.proofs.Common.{◌≡◌, ◌≢◌, ◌==◌, ℕ, zero, suc, ◌+◌, ◌<◌, ◌≤◌, Bool, true, false, true≢false, List, [], ◌∷◌, length, take, get_or, refl, sym, ap, ap₂, ◌∙◌, subst, arith, if◌then◌else◌, Option, Some, None, inl, inr, ◌⊎◌, MatchBool}
-use Rattle.std.proofs.lemmas.Bool.{cases_eq, cases_lt, eqb-true}
+use Rattle.std.proofs.Common.{◌≡◌, ◌≢◌, ◌==◌, ℕ, zero, suc, ◌+◌, ◌<◌, ◌≤◌, Bool, true, false, true≢false, List, [], ◌∷◌, length, take, get_or, refl, sym, ap, ap₂, ◌∙◌, subst, arith, inl, inr, ◌⊎◌, MatchBool}
+use Rattle.std.proofs.lemmas.Bool.{cases_eq, eqb-true}
 use Rattle.std.proofs.lemmas.List.{take_all}
 use Rattle.std.proofs.lemmas.Option.{slice_get-get_or}
 use Rattle.std.specs.Prelude.{slice_get}
 use Rattle.firm_uses.specs.Counts.{times}
-use Rattle.firm_uses.proofs.CountLaws.{one, one_same, one_other, times_found, times_front}
+use Rattle.firm_uses.proofs.CountLaws.{one, one_same, one_other, times_found}
 use Rattle.firm_rules.specs.declared.node.NodeId.{NodeId}
 use Rattle.firm_rules.specs.declared.node.NodeOp.{NodeOp}
 use Rattle.firm_rules.specs.declared.node.NodeOp.TheVariants.{Start}
 use Rattle.firm_rules.specs.Graphs.{FirmNode, Firm}
-use Rattle.firm_rules.specs.Lookups.{node_at, rank, IsBlock, preds_of, first_of}
-use Rattle.firm_rules.specs.Rules.{is_phi, is_start, IsStartOf, IsEdge, FirstFits, OtherFits}
+use Rattle.firm_rules.specs.Lookups.{rank, preds_of}
+use Rattle.firm_rules.specs.Rules.{is_phi, is_start, IsStartOf, FirstFits, OtherFits}
 use Rattle.firm_tables.specs.Nodes.{numbers, node_of, stands_in}
 use Rattle.firm_tables.proofs.MemberLaws.{number_at, numbers_long}
 use Rattle.firm_tables.proofs.NodeLaws.{matches}
 use Rattle.firm_nodes.specs.Calls.{IsNode}
-use Rattle.firm_verify.specs.Broken.{PlaceFits}
-use Rattle.firm_verify.specs.Tables.{AreMembers, AreRanks, passing, HasEarlier}
+use Rattle.firm_verify.specs.Tables.{AreMembers, passing, HasEarlier}
 use Rattle.firm_verify.proofs.GraphLaws.{node_read, node_seen, stands_of, stands_at, stands_own, as_number}
 use Rattle.firm_verify.proofs.CountsLaws.{got}
 use Rattle.firm_verify.proofs.PhiLaws.{decides}

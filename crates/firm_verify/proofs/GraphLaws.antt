@@ -1,16 +1,16 @@
 -- Nodes and blocks of a graph, as they are read, and lists of all of them.
-use Rattle.std.proofs.Common.{◌≡◌, ◌≢◌, ◌==◌, ℕ, zero, suc, ◌+◌, ◌<◌, ◌≤◌, Bool, true, false, true≢false, ◌&&◌, List, [], ◌∷◌, ◌++◌, length, map, take, get_or, refl, sym, ap, ap₂, ◌∙◌, subst, arith, if◌then◌else◌, cond, Option, Some, None, inl, inr, ◌⊎◌}
+use Rattle.std.proofs.Common.{◌≡◌, ◌==◌, ℕ, zero, suc, ◌+◌, ◌<◌, ◌≤◌, Bool, true, false, true≢false, ◌&&◌, List, [], ◌∷◌, ◌++◌, length, take, get_or, refl, sym, ap, ◌∙◌, subst, arith, if◌then◌else◌, Option, Some, None, inl, inr}
 use Rattle.std.proofs.lemmas.Bool.{cases_eq, cases_lt, eq-eqb, eqb-true, and_parts, and_from}
 use Rattle.std.proofs.lemmas.List.{take_all}
 use Rattle.std.specs.Prelude.{slice_get}
 use Rattle.firm_uses.specs.Counts.{times}
-use Rattle.firm_uses.proofs.CountLaws.{one, one_same, one_other, times_found, times_front, times_push}
+use Rattle.firm_uses.proofs.CountLaws.{one, one_other, times_found, times_front, times_push}
 use Rattle.firm_rules.specs.declared.node.NodeId.{NodeId}
 use Rattle.firm_rules.specs.declared.node.BlockId.{BlockId}
 use Rattle.firm_rules.specs.Graphs.{FirmNode, Firm}
 use Rattle.firm_rules.specs.Lookups.{if_there, node_at, IsBlock}
 use Rattle.firm_rules.specs.Rules.{IsWhole}
-use Rattle.firm_tables.specs.Nodes.{numbers, node_of, stands_in, no_node}
+use Rattle.firm_tables.specs.Nodes.{numbers, node_of, stands_in}
 use Rattle.firm_tables.proofs.MemberLaws.{number_at, numbers_long, numbers_pushed}
 use Rattle.firm_nodes.specs.Calls.{IsNode}
 use Rattle.firm_nodes.specs.Kept.{block_numbers}

@@ -8,3 +8,4 @@ pub mod LoopLaws
 pub mod TreeLaws
 pub mod WalkLaws
 pub mod DefinedLaws
+pub mod MarkLaws

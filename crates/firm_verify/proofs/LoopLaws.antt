@@ -1,7 +1,6 @@
 -- Loops, and edges into them from aside.
-use Rattle.std.proofs.Common.{◌≡◌, ◌≢◌, ℕ, zero, suc, Bool, ◌+◌, ◌<◌, ◌≤◌, List, [], ◌∷◌, length, get_or, refl, sym, ap, ◌∙◌, subst, arith, Some, None, inl, inr, ◌⊎◌, MatchBool}
-use Rattle.std.specs.Prelude.{slice_get}
-use Rattle.std.proofs.lemmas.Bool.{cases_eq, cases_lt}
+use Rattle.std.proofs.Common.{◌≡◌, ℕ, zero, suc, Bool, ◌+◌, ◌<◌, ◌≤◌, List, length, get_or, refl, sym, ap, ◌∙◌, subst, arith, Some, None, inl, inr, ◌⊎◌, MatchBool}
+use Rattle.std.proofs.lemmas.Bool.{cases_eq}
 use Rattle.std.proofs.lemmas.Option.{slice_get-get_or}
 use Rattle.firm_uses.specs.Counts.{times}
 use Rattle.firm_uses.proofs.CountLaws.{times_found}
@@ -16,7 +15,6 @@ use Rattle.firm_nodes.proofs.LikeLaws.{times_at}
 use Rattle.firm_verify.specs.Broken.{AtBlocks, Rule6, IsBroken, head}
 use Rattle.firm_verify.specs.Tables.{HasOutside, HasSideEntry, IsBadLoop, NoBadLoop}
 use Rattle.firm_verify.proofs.CountsLaws.{got}
-use Rattle.firm_verify.proofs.GraphLaws.{at_blocks}
 
 -- ---- edges
 

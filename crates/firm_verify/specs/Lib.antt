@@ -1,3 +1,4 @@
 pub mod Broken
 pub mod Tables
 pub mod Trees
+pub mod Marks

@@ -31,7 +31,7 @@ fn add_all(nodes: &mut Vec<NodeId>, more: &[NodeId]) -> Result<(), AllocError>
 }
 
 // The place of each block in the order.
-pub(crate) fn ranks(alloc: Global, graph: &Graph) -> Result<Vec<usize>, AllocError>
+pub(crate) fn ranks_of(alloc: Global, graph: &Graph) -> Result<Vec<usize>, AllocError>
     ensures { IfOk result (λ ranks. AreRanks graph.now ranks.items) }
 {
     let order = graph.blocks();

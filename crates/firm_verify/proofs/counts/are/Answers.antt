@@ -1,7 +1,7 @@
 use Rattle.std.proofs.Common.{get_or, None}
 use Rattle.firm_rules.specs.declared.node.Mode.TheVariants.{Word}
 use Rattle.firm_tables.proofs.NodeLaws.{refuses}
-use Rattle.firm_verify.proofs.CountsLaws.{other_count, all_modes, other_mode}
+use Rattle.firm_verify.proofs.CountsLaws.{all_modes, other_mode}
 use Rattle.firm_verify.proofs.counts.are.Goals as goal
 
 pub returns-then-not-has_mode : goal.returns-then-not-has_mode

@@ -1,4 +1,4 @@
-use Rattle.std.proofs.Common.{◌≡◌, ◌<◌, ℕ, length, get_or, None, Some}
+use Rattle.std.proofs.Common.{◌≡◌, ◌<◌, ℕ, get_or, None, Some}
 use Rattle.firm_rules.specs.declared.node.Mode.TheVariants.{Word}
 use Rattle.firm_verify.proofs.counts.are.Given as goal
 

@@ -1,6 +1,6 @@
 use Rattle.std.proofs.Common.{get_or, None}
-use Rattle.firm_tables.proofs.NodeLaws.{agrees, refuses}
-use Rattle.firm_verify.proofs.CountsLaws.{begins, no_beginning, nothing_begins, some_length}
+use Rattle.firm_tables.proofs.NodeLaws.{agrees}
+use Rattle.firm_verify.proofs.CountsLaws.{begins, some_length}
 use Rattle.firm_verify.proofs.counts.begins_with_memory.Goals as goal
 
 pub returns-then-has_mode : goal.returns-then-has_mode

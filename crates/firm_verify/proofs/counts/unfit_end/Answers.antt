@@ -1,4 +1,4 @@
-use Rattle.std.proofs.Common.{get_or, sym, subst, ℕ, arith}
+use Rattle.std.proofs.Common.{get_or, sym, subst, arith}
 use Rattle.firm_rules.specs.Lookups.{end_of}
 use Rattle.firm_rules.specs.Rules.{EndFits}
 use Rattle.firm_tables.proofs.NodeLaws.{agrees, refuses}

@@ -2,7 +2,7 @@ use Rattle.std.proofs.Common.{get_or, sym, subst, ℕ, arith}
 use Rattle.firm_rules.specs.Graphs.{FirmNode, operands_of}
 use Rattle.firm_rules.specs.Rules.{OperandsFit}
 use Rattle.firm_verify.proofs.CountsLaws.{NodeFits}
-use Rattle.firm_tables.specs.Nodes.{numbers, node_of}
+use Rattle.firm_tables.specs.Nodes.{numbers}
 use Rattle.firm_tables.proofs.MemberLaws.{number_at}
 use Rattle.firm_tables.proofs.NodeLaws.{agrees, refuses}
 use Rattle.firm_verify.specs.Broken.{operands}

@@ -1,7 +1,7 @@
 use Rattle.std.proofs.Common.{ap, ◌∙◌}
 use Rattle.firm_uses.specs.Counts.{times}
 use Rattle.firm_rules.specs.Lookups.{targets}
-use Rattle.firm_verify.proofs.EdgeLaws.{pred_is, pred_unlike, some_led, all_led}
+use Rattle.firm_verify.proofs.EdgeLaws.{pred_is, pred_unlike, all_led}
 use Rattle.firm_verify.proofs.edges.unlike_pred_of.Goals as goal
 
 pub end_of-requires : goal.end_of-requires

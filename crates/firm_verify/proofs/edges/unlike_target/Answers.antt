@@ -1,5 +1,5 @@
-use Rattle.std.proofs.Common.{get_or, sym, subst, ℕ, arith}
-use Rattle.firm_tables.proofs.NodeLaws.{agrees, refuses}
+use Rattle.std.proofs.Common.{get_or, sym, subst, arith}
+use Rattle.firm_tables.proofs.NodeLaws.{agrees}
 use Rattle.firm_nodes.specs.Kept.{block_numbers}
 use Rattle.firm_nodes.proofs.OrderLaws.{block_at}
 use Rattle.firm_verify.specs.Tables.{TargetsAlike}

@@ -1,4 +1,4 @@
-use Rattle.std.proofs.Common.{◌∙◌, ap, sym, ◌+◌}
+use Rattle.std.proofs.Common.{◌∙◌, sym}
 use Rattle.firm_rules.specs.Rules.{is_phi}
 use Rattle.firm_verify.proofs.FirstLaws.{member_there, passing_more, passing_all, counted, not_counted}
 use Rattle.firm_verify.proofs.first.count_phis.Goals as goal

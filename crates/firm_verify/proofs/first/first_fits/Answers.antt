@@ -2,7 +2,7 @@ use Rattle.firm_tables.specs.Nodes.{numbers}
 use Rattle.std.proofs.Common.{sym, ◌∙◌, ◌==◌}
 use Rattle.std.proofs.lemmas.Bool.{eqb-true, eq-eqb}
 use Rattle.firm_verify.proofs.PhiLaws.{decides}
-use Rattle.firm_verify.proofs.FirstLaws.{first_fits, fits_no_phi, fits_start, phis_refuse, no_length}
+use Rattle.firm_verify.proofs.FirstLaws.{first_fits, fits_start, phis_refuse, no_length}
 use Rattle.firm_verify.proofs.first.first_fits.Goals as goal
 
 pub returns-then-count_phis-eq0 : goal.returns-then-count_phis-eq0

@@ -1,6 +1,5 @@
 use Rattle.std.proofs.Common.{sym, get_or}
 use Rattle.firm_tables.specs.Nodes.{numbers}
-use Rattle.firm_nodes.specs.Kept.{block_numbers}
 use Rattle.firm_nodes.proofs.OrderLaws.{block_at}
 use Rattle.firm_verify.proofs.GraphLaws.{no_nodes, nodes_more, nodes_done, block_listed}
 use Rattle.firm_verify.proofs.lists.all_nodes.Goals as goal

@@ -1,9 +1,5 @@
-use Rattle.std.proofs.Common.{arith, get_or, sym, ◌+◌, ap, length}
-use Rattle.firm_rules.specs.Lookups.{preds_of}
+use Rattle.std.proofs.Common.{◌+◌}
 use Rattle.firm_tables.proofs.NodeLaws.{refuses}
-use Rattle.firm_nodes.specs.Kept.{block_numbers}
-use Rattle.firm_nodes.proofs.OrderLaws.{blocks_long}
-use Rattle.firm_verify.specs.Tables.{HasOutside}
 use Rattle.firm_verify.proofs.GraphLaws.{block_listed}
 use Rattle.firm_verify.proofs.LoopLaws.{side_more, no_side, within_order}
 use Rattle.firm_verify.proofs.loops.has_side_entry.Goals as goal

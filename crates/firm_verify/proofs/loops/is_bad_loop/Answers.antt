@@ -1,4 +1,4 @@
-use Rattle.std.proofs.Common.{sym, ap, length, ◌∙◌, arith}
+use Rattle.std.proofs.Common.{ap, length, arith}
 use Rattle.firm_nodes.proofs.OrderLaws.{blocks_long}
 use Rattle.firm_verify.proofs.LoopLaws.{bad_by}
 use Rattle.firm_verify.proofs.loops.is_bad_loop.Goals as goal

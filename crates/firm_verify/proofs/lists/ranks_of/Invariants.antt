@@ -1,5 +1,5 @@
 use Rattle.firm_verify.proofs.TableLaws.{AreRanksFrom}
-use Rattle.firm_verify.proofs.lists.ranks.Given as goal
+use Rattle.firm_verify.proofs.lists.ranks_of.Given as goal
 
 abbrev pub invariant-loop-place : goal.invariant-loop-place
 invariant-loop-place l = AreRanksFrom l.order l.ranks.items l.place

@@ -1,5 +1,5 @@
 use Rattle.firm_verify.proofs.TableLaws.{ranks_start, ranks_turn, ranks_done}
-use Rattle.firm_verify.proofs.lists.ranks.Goals as goal
+use Rattle.firm_verify.proofs.lists.ranks_of.Goals as goal
 
 pub loop-place-init : goal.loop-place-init
 loop-place-init c = ranks_start c.blocks-order.result.now c.new-ranks.result.items c.new-ranks.ensures.items
