@@ -9,3 +9,4 @@ pub mod TreeLaws
 pub mod WalkLaws
 pub mod DefinedLaws
 pub mod MarkLaws
+pub mod ChainLaws
