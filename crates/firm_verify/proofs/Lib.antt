@@ -10,3 +10,4 @@ pub mod WalkLaws
 pub mod DefinedLaws
 pub mod MarkLaws
 pub mod ChainLaws
+pub mod ObeyLaws
