@@ -11,3 +11,4 @@ pub mod DefinedLaws
 pub mod MarkLaws
 pub mod ChainLaws
 pub mod ObeyLaws
+pub mod RivalLaws

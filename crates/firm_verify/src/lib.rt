@@ -28,6 +28,7 @@ mod first;
 mod laws;
 mod lists;
 mod loops;
+mod memory;
 mod phis;
 mod tree;
 
