@@ -194,7 +194,7 @@ takes_is : (g : Firm) (test : ℕ → Bool) (l : List ℕ) → 0 < length l → 
 takes_is g test [] h = absurd (omega (arith, h))
 takes_is g test (x ∷ l) h = refl
 
-acts_some : (b : ℕ) (found : Option FirmNode) → acts_in b found ≡ true → (node : FirmNode) × ((found ≡ Some node) × ((node.block ≡ b) × (acts node.op ≡ true)))
+pub acts_some : (b : ℕ) (found : Option FirmNode) → acts_in b found ≡ true → (node : FirmNode) × ((found ≡ Some node) × ((node.block ≡ b) × (acts node.op ≡ true)))
 acts_some b (Some node) e = let parts = and_parts (node.block == b) (acts node.op) e in (node, (refl, (eqb-true node.block b parts.0, parts.1)))
 acts_some b None e = absurd (true≢false (sym e))
 

@@ -12,3 +12,4 @@ pub mod MarkLaws
 pub mod ChainLaws
 pub mod ObeyLaws
 pub mod RivalLaws
+pub mod MemoryLaws
