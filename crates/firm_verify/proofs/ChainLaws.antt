@@ -1,6 +1,6 @@
 -- The chain of the nodes of a block that take memory.
-use Rattle.std.proofs.Common.{◌≡◌, ◌≢◌, ◌==◌, ℕ, zero, suc, ◌+◌, ◌<◌, ◌≤◌, Bool, true, false, true≢false, ◌&&◌, not, List, [], ◌∷◌, length, get_or, refl, sym, ap, ap₂, ◌∙◌, subst, arith, cond, if◌then◌else◌, Option, Some, None, inl, inr, ◌⊎◌}
-use Rattle.std.specs.Prelude.{slice_get, nat_lt, position, unwrap_or}
+use Rattle.std.proofs.Common.{◌≡◌, ◌==◌, ℕ, zero, suc, ◌+◌, ◌<◌, ◌≤◌, Bool, true, false, true≢false, ◌&&◌, not, List, [], ◌∷◌, length, get_or, refl, sym, ap, ◌∙◌, subst, arith, cond, if◌then◌else◌, Option, Some, None, inl, inr, ◌⊎◌}
+use Rattle.std.specs.Prelude.{slice_get, unwrap_or}
 use Rattle.std.specs.List.{position_or_len}
 use Rattle.std.proofs.lemmas.Bool.{cases_eq, cases_lt, eq-eqb, eqb-true, ne_eqb, and_parts, and_from, lt-ltb}
 use Rattle.std.proofs.lemmas.List.Quantifiers.{position-Some}
@@ -16,7 +16,7 @@ use Rattle.firm_verify.specs.Broken.{Rule1, Rule3}
 use Rattle.firm_tables.specs.Nodes.{node_of, no_node}
 use Rattle.firm_tables.proofs.NodeLaws.{node_within}
 use Rattle.firm_nodes.specs.Calls.{IsNode}
-use Rattle.firm_verify.proofs.GraphLaws.{node_read, node_seen, as_number}
+use Rattle.firm_verify.proofs.GraphLaws.{node_read, as_number}
 
 -- ---- the first node that passes a test
 

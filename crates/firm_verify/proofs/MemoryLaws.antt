@@ -1,5 +1,5 @@
 -- What the nodes of memory that are alone say of chains and of Phis.
-use Rattle.std.proofs.Common.{◌≡◌, ◌≢◌, ◌==◌, ◌&&◌, ℕ, Bool, true, false, true≢false, not, List, refl, sym, ap, ◌∙◌, subst, if◌then◌else◌, Option, Some, None}
+use Rattle.std.proofs.Common.{◌≡◌, ◌==◌, ◌&&◌, ℕ, Bool, true, false, not, refl, sym, ap, ◌∙◌, subst, if◌then◌else◌, Some, None}
 use Rattle.std.specs.Prelude.{slice_get}
 use Rattle.std.proofs.lemmas.Bool.{eq-eqb, eqb-true, and_parts, and_from}
 use Rattle.firm_rules.specs.Graphs.{FirmNode, Firm, acts}
@@ -11,7 +11,7 @@ use Rattle.firm_verify.specs.declared.memory.Sort.TheVariants.{Begins, Follows, 
 use Rattle.firm_verify.specs.Broken.{Rule1, Rule3}
 use Rattle.firm_verify.specs.Memory.{key, is_within, taken_by, HasKey, AllAlone}
 use Rattle.firm_verify.proofs.GraphLaws.{node_read}
-use Rattle.firm_verify.proofs.ChainLaws.{Acts, taken, acts_some, NoRivals, all_in_chain, Passes, first_only}
+use Rattle.firm_verify.proofs.ChainLaws.{Acts, taken, acts_some, all_in_chain, first_only}
 
 record ActsThere (g : Firm) (b n : ℕ) : Type 0 where
   pub node : IsNode g n
@@ -36,7 +36,7 @@ begins_key : (g : Firm) (b n : ℕ) → Acts g b n → (Acts g b (taken g b n) �
 begins_key g b n a head =
     let at = acts_there g b n a in
     let test = and_from (acts (node_of g.nodes n).op) (not (is_within g (node_of g.nodes n))) at.does
-        (is_false (is_within g (node_of g.nodes n)) (λ e. head (subst (λ k. acts_in k (node_at g (taken g b n)) ≡ true) at.block e))) in
+    (is_false (is_within g (node_of g.nodes n)) (λ e. head (subst (λ k. acts_in k (node_at g (taken g b n)) ≡ true) at.block e))) in
     (at.node, ap (λ t. if t then Some (node_of g.nodes n).block else None) test ∙ ap Some at.block)
 
 follows_key : (g : Firm) (b n : ℕ) → Acts g b n → Acts g b (taken g b n) → HasKey g Follows n (taken g b n)
@@ -65,5 +65,5 @@ phis_fit g alone b n node is block phi =
     first_only g (λ x. (x.block == b) && is_memory_phi x.op) n
     (record { node = node; is = is; passed = and_from (node.block == b) (is_memory_phi node.op) (eq-eqb node.block b block) phi })
     (λ m p.
-        let parts = and_parts (p.node.block == b) (is_memory_phi p.node.op) p.passed in
-        alone m n b (subst (HasKey g MemoryPhi m) (eqb-true p.node.block b parts.0) (phi_key g m p.node p.is parts.1)) (subst (HasKey g MemoryPhi n) block (phi_key g n node is phi)))
+    let parts = and_parts (p.node.block == b) (is_memory_phi p.node.op) p.passed in
+    alone m n b (subst (HasKey g MemoryPhi m) (eqb-true p.node.block b parts.0) (phi_key g m p.node p.is parts.1)) (subst (HasKey g MemoryPhi n) block (phi_key g n node is phi)))

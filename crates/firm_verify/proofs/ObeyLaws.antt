@@ -1,5 +1,5 @@
 -- The rules one by one, and all of them.
-use Rattle.std.proofs.Common.{◌≡◌, ◌≢◌, ℕ, ◌<◌, length, Option, Some, None}
+use Rattle.std.proofs.Common.{ℕ, ◌<◌, length, Option}
 use Rattle.firm_rules.specs.declared.node.NodeId.{NodeId}
 use Rattle.firm_rules.specs.Graphs.{Firm}
 use Rattle.firm_rules.specs.Rules.{Obeys}

@@ -1,13 +1,13 @@
 -- Nodes of a sort, each the owner of its key.
-use Rattle.std.proofs.Common.{◌≡◌, ◌≢◌, ℕ, zero, suc, ◌+◌, ◌<◌, ◌≤◌, ◌==◌, ◌&&◌, Bool, true, false, true≢false, List, [], ◌∷◌, length, take, get_or, refl, sym, ap, ◌∙◌, subst, arith, Option, Some, None, inl, inr, ◌⊎◌, MatchBool}
+use Rattle.std.proofs.Common.{◌≡◌, ◌≢◌, ℕ, suc, ◌+◌, ◌<◌, ◌≤◌, ◌==◌, ◌&&◌, Bool, true, false, true≢false, List, [], ◌∷◌, length, take, get_or, refl, sym, ap, ◌∙◌, subst, arith, Option, Some, None, inl, inr, ◌⊎◌, MatchBool}
 use Rattle.std.proofs.lemmas.Bool.{cases_eq, eq-eqb, ne_eqb}
 use Rattle.std.proofs.lemmas.List.{take_all}
 use Rattle.firm_uses.specs.Counts.{times}
-use Rattle.firm_uses.proofs.CountLaws.{one, one_same, one_other, times_front}
+use Rattle.firm_uses.proofs.CountLaws.{one, one_other, times_front}
 use Rattle.firm_rules.specs.declared.node.NodeId.{NodeId}
 use Rattle.firm_rules.specs.declared.node.NodeOp.{NodeOp}
 use Rattle.firm_rules.specs.declared.node.NodeOp.TheVariants.{ProjM}
-use Rattle.firm_rules.specs.Graphs.{FirmNode, Firm, acts, operands_of}
+use Rattle.firm_rules.specs.Graphs.{Firm, acts, operands_of}
 use Rattle.firm_rules.specs.Lookups.{node_at}
 use Rattle.firm_rules.specs.Rules.{OperandsFit, giver, giver_in, giver_by, acts_in}
 use Rattle.firm_verify.specs.Broken.{Rule1}

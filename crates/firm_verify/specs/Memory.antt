@@ -1,6 +1,6 @@
 -- Nodes of which a block has at most one of a sort: those that begin its chain, those that take the memory of one node, and Phis of
 -- memory.
-use Rattle.std.specs.Prelude.{◌≡◌, ◌≢◌, ℕ, Bool, true, false, not, ◌&&◌, List, if◌then◌else◌, Option, Some, None, slice_index}
+use Rattle.std.specs.Prelude.{◌≡◌, ◌≢◌, ℕ, Bool, true, false, not, ◌&&◌, if◌then◌else◌, Option, Some, None, slice_index}
 use Rattle.firm_rules.specs.declared.node.NodeOp.{NodeOp}
 use Rattle.firm_rules.specs.declared.node.NodeOp.TheVariants.{ProjM}
 use Rattle.firm_rules.specs.Graphs.{FirmNode, Firm, acts}

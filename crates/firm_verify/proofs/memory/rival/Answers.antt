@@ -1,5 +1,4 @@
-use Rattle.std.proofs.Common.{get_or, sym, subst, ◌∙◌, ◌≡◌, ◌≢◌, ℕ, Option, None, Some}
-use Rattle.firm_tables.specs.Nodes.{numbers}
+use Rattle.std.proofs.Common.{get_or, sym, ◌∙◌}
 use Rattle.firm_verify.proofs.GraphLaws.{node_listed}
 use Rattle.firm_verify.proofs.RivalLaws.{no_owners, owners_pass, owners_more, all_alone, rival_by, same_by}
 use Rattle.firm_verify.proofs.memory.rival.Goals as goal
