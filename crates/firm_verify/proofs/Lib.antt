@@ -1,0 +1,15 @@
+pub mod GraphLaws
+pub mod TableLaws
+pub mod PhiLaws
+pub mod CountsLaws
+pub mod FirstLaws
+pub mod EdgeLaws
+pub mod LoopLaws
+pub mod TreeLaws
+pub mod WalkLaws
+pub mod DefinedLaws
+pub mod MarkLaws
+pub mod ChainLaws
+pub mod ObeyLaws
+pub mod RivalLaws
+pub mod MemoryLaws

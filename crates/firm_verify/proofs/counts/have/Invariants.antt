@@ -1,0 +1,5 @@
+use Rattle.std.proofs.Common.{◌≡◌, ◌<◌, ◌≤◌, ℕ, get_or, None, Some}
+use Rattle.firm_verify.proofs.counts.have.Given as goal
+
+abbrev pub invariant-loop-index : goal.invariant-loop-index
+invariant-loop-index l = (k : ℕ) → l.from ≤ k → k < l.index → get_or l.modes (get_or l.operands k 0) None ≡ Some l.mode

@@ -1,0 +1,5 @@
+pub mod Broken
+pub mod Tables
+pub mod Trees
+pub mod Marks
+pub mod Memory

@@ -1,0 +1,37 @@
+// The tests of a graph against the rules.
+//
+// In comes a graph; out goes the first rule that it breaks, with the node or the block, or none.
+//
+// The idea: the nodes are listed once, and so are the places of the blocks in their order. Then each rule is tested in turn, and a later
+// test may rest on the rules before it. Operands are tested by a table of modes. Cycles of operands are sought by one search in depth,
+// which looks at each node twice. Where an operand is defined is read off a tree of the blocks, in which each block stands below the
+// nearest one that is above all its earlier predecessors: where the rules on the order and on loops hold, each walk to a block visits
+// exactly what is above it.
+//
+// The invariant: of the search for cycles, each way from a node that is ended ends at a Phi or at a node without operands, and the
+// others stand on the path, each an operand of the one before. Of the tree, what is above a block is above each earlier predecessor.
+//
+// The theorem: what is found is broken there, and the rules before it hold; where nothing is found, all rules hold (`verify`);
+// all of them together are what a graph obeys (`rules_are_all`). The rule on memory is not tested, and no contract of a test speaks of it.
+//
+// Source: Braun, Buchwald and Zwinkau, Firm: A Graph-Based Intermediate Representation (2011); the tree is that of Cooper, Harvey and
+// Kennedy, A Simple, Fast Dominance Algorithm (2001), which is exact after one pass here.
+#![tactic(auto)]
+
+mod all;
+mod broken;
+mod counts;
+mod cycles;
+mod defined;
+mod edges;
+mod first;
+mod laws;
+mod lists;
+mod loops;
+mod memory;
+mod phis;
+mod tree;
+
+pub use all::verify;
+pub use broken::Broken;
+pub use laws::rules_are_all;
