@@ -11,8 +11,9 @@
 // The invariant: of the search for cycles, each way from a node that is ended ends at a Phi or at a node without operands, and the
 // others stand on the path, each an operand of the one before. Of the tree, what is above a block is above each earlier predecessor.
 //
-// The theorem: what is found is broken there, and the rules before it hold; where nothing is found, all rules hold (`verify`);
-// all of them together are what a graph obeys (`rules_are_all`). The rule on memory is not tested, and no contract of a test speaks of it.
+// The theorem, on `verify`: what is found is broken there, and the rules before it hold; where nothing is found, all rules hold. The
+// fourth rule, that on memory, is not tested yet, and is left out of both. `rules_are_all`: the eight rules together are what a graph
+// obeys.
 //
 // Source: Braun, Buchwald and Zwinkau, Firm: A Graph-Based Intermediate Representation (2011); the tree is that of Cooper, Harvey and
 // Kennedy, A Simple, Fast Dominance Algorithm (2001), which is exact after one pass here.
