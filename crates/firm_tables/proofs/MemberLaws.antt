@@ -2,7 +2,10 @@
 use Rattle.std.proofs.Common.{◌≡◌, ◌≢◌, ◌==◌, ℕ, zero, suc, ◌+◌, ◌<◌, ◌≤◌, Bool, true, false, ◌&&◌, List, [], ◌∷◌, ◌++◌, length, map, get_or, set, refl, sym, ap, ap₂, ◌∙◌, arith, if◌then◌else◌, cond, inl, inr, true≢false}
 use Rattle.std.proofs.lemmas.Bool.{cases_eq, cases_lt, eq-eqb, ne_eqb}
 use Rattle.std.proofs.lemmas.List.{get_or-set_same, get_or-set_other, get_or_at, length-map}
-use Rattle.std.specs.List.{remove}
+use Rattle.std.proofs.lemmas.List.Sums.{sum_by-cons}
+use Rattle.std.proofs.lemmas.List.Sorted.{sum_by-IsPermutation, IsPermutation-map, IsPermutation-swap_remove}
+use Rattle.std.specs.List.{remove, swap_remove, sum_by}
+use Rattle.std.specs.List.Sorted.{IsPermutation}
 use Rattle.cp_obstack.specs.Lists.{list_of}
 use Rattle.firm_uses.specs.Counts.{times}
 use Rattle.firm_uses.proofs.CountLaws.{one, one_same, one_other, times_push, times-remove}
@@ -212,3 +215,20 @@ members_back members pushed back block number p po r ro b n = elim (cases_eq b b
 pub is_member : (members pushed : List (List ℕ)) (block number : ℕ) → list_of pushed block ≡ list_of members block ++ number ∷ [] → 0 < times number (list_of pushed block)
 is_member members pushed block number p =
     omega (arith, ap (times number) p, times_push number (list_of members block) number, one_same number)
+
+-- ---- the last node comes into the place of one that goes
+
+times_sum : (x : ℕ) (list : List ℕ) → times x list ≡ sum_by (one x) list
+times_sum x [] = refl
+times_sum x (y ∷ list) = ap (λ k. one x y + k) (times_sum x list) ∙ sym (sum_by-cons (one x) y list)
+
+times_permuted : (x : ℕ) (list after : List ℕ) → IsPermutation list after → times x after ≡ times x list
+times_permuted x list after moved = times_sum x after ∙ sum_by-IsPermutation (one x) list after moved ∙ sym (times_sum x list)
+
+pub swapped_one : (list after : List NodeId) (place node x : ℕ) (gone : NodeId) → place < length list → get_or (numbers list) place 0 ≡ node → gone ≡ get_or list place gone
+    → after ≡ swap_remove list place gone → times x (numbers after) + (one x node + 0) ≡ times x (numbers list)
+swapped_one list after place node x gone h is read e =
+    let moved = IsPermutation-map (λ (id : NodeId). id.number) list (gone ∷ swap_remove list place gone) (IsPermutation-swap_remove list place gone h read) in
+    let counted = times_permuted x (numbers list) (gone.number ∷ numbers (swap_remove list place gone)) moved in
+    let its : gone.number ≡ node = ap (λ (id : NodeId). id.number) read ∙ sym (number_at list place gone h) ∙ is in
+    omega (arith, counted, ap (λ l. times x (numbers l)) e, ap (one x) its)
