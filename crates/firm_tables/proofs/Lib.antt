@@ -3,3 +3,4 @@ pub mod BlockLaws
 pub mod EqualLaws
 pub mod MemberLaws
 pub mod LossLaws
+pub mod LeafLaws

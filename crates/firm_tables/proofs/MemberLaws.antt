@@ -27,7 +27,7 @@ and_false false = refl
 in_other : (row : Stored) (b : ℕ) → row.block ≢ b → count row b ≡ 0
 in_other row b ne = ap (λ x. cond (row.there && x) 1 0) (ne_eqb row.block b ne) ∙ ap (λ x. cond x 1 0) (and_false row.there)
 
-in_own : (row : Stored) (b : ℕ) → row.there ≡ true → row.block ≡ b → count row b ≡ 1
+pub in_own : (row : Stored) (b : ℕ) → row.there ≡ true → row.block ≡ b → count row b ≡ 1
 in_own row b there e = ap₂ (λ x y. cond (x && y) 1 0) there (eq-eqb row.block b e)
 
 in_none : (row : Stored) (b : ℕ) → row.there ≡ false → count row b ≡ 0
@@ -57,11 +57,14 @@ stands_row os cs rows n b = elim (cases_lt n (length rows)) [
   | inr le ↦ ap (λ (node : FirmNode). stands_in node b) (past_nodes os cs rows n le) ∙ sym (ap (λ (r : Stored). is_in r b) (past_rows rows n le))
 ]
 
-read_old : (rows : List Stored) (row : Stored) (n : ℕ) → n ≢ length rows → get_or (rows ++ row ∷ []) n no_row ≡ get_or rows n no_row
+pub read_old : (rows : List Stored) (row : Stored) (n : ℕ) → n ≢ length rows → get_or (rows ++ row ∷ []) n no_row ≡ get_or rows n no_row
 read_old [] row zero ne = absurd (ne refl)
 read_old [] row (suc n) ne = refl
 read_old (r ∷ rows) row zero ne = refl
 read_old (r ∷ rows) row (suc n) ne = read_old rows row n (λ e. ne (ap suc e))
+
+pub row_last : (rows : List Stored) (row : Stored) (n : ℕ) → n ≡ length rows → get_or (rows ++ row ∷ []) n no_row ≡ row
+row_last rows row n new = get_or_at rows row [] no_row n (sym new)
 
 -- ---- a node that comes
 

@@ -1,3 +1,4 @@
 pub mod Nodes
 pub mod Blocks
 pub mod Held
+pub mod Leaves

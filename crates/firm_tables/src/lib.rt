@@ -14,6 +14,7 @@
 #![tactic(auto)]
 
 mod blocks;
+mod leaves;
 mod members;
 mod nodes;
 mod uses;
