@@ -48,27 +48,6 @@ pub like_is_user : (nodes : List FirmNode) (op : NodeOp) (b : ℕ) (operands use
     → IsLike nodes op b operands m → (i : ℕ) × ((i < length users) × (get_or users i 0 ≡ m))
 like_is_user nodes op b operands users used m u h l = times_at m users (omega (arith, u m, ap (times used) l.operands_are, h))
 
-abbrev pub Lists : List FirmNode → ℕ → List ℕ → Type 0
-Lists nodes b members = (n : ℕ) → times n members ≡ (if stands_in (node_of nodes n) b then 1 else 0)
-
-stands_there : (nodes : List FirmNode) (n b : ℕ) → 0 < (if stands_in (node_of nodes n) b then 1 else 0) → n < length nodes
-stands_there [] n b h = absurd (omega arith)
-stands_there (node ∷ nodes) zero b h = omega arith
-stands_there (node ∷ nodes) (suc n) b h = omega (arith, stands_there nodes n b h)
-
-pub members_within : (nodes : List FirmNode) (b : ℕ) (members : List ℕ) (i : ℕ) → Lists nodes b members → i < length members → get_or members i 0 < length nodes
-members_within nodes b members i a h =
-    let n = get_or members i 0 in
-    stands_there nodes n b (omega (arith, a n, times_found n members i 0 h refl))
-
--- a node of the block is among its members
-pub like_is_member : (nodes : List FirmNode) (op : NodeOp) (b : ℕ) (operands members : List ℕ) (m : ℕ) → Lists nodes b members → IsLike nodes op b operands m
-    → (i : ℕ) × ((i < length members) × (get_or members i 0 ≡ m))
-like_is_member nodes op b operands members m a l =
-    let one : ℕ = 1 in
-    let here : (if stands_in (node_of nodes m) b then 1 else 0) ≡ one = ap₂ (λ x y. cond (x && y) 1 0) l.there (eq-eqb (node_of nodes m).block b l.block_is) in
-    times_at m members (omega (arith, a m, here))
-
 -- ---- operands that fit
 
 made_within : (nodes : List FirmNode) (n : ℕ) (mode : Mode) → option_map (λ node. mode_of node.op) (if_there (slice_get nodes n)) ≡ Some mode → n < length nodes
@@ -120,12 +99,12 @@ no_like_user nodes op b operands users used u h none m l =
     let found = like_is_user nodes op b operands users used m u h l in
     none found.0 found.1.0 (subst (λ n. IsLike nodes op b operands n) (sym found.1.1) l)
 
-pub no_like_member : (nodes : List FirmNode) (op : NodeOp) (b : ℕ) (operands : List ℕ) (members : List NodeId) → Lists nodes b (numbers members) → operands ≡ []
-    → ((index : ℕ) → index < length members → IsLike nodes op b [] (get_or (numbers members) index 0) → ⊥) → (m : ℕ) → IsLike nodes op b operands m → ⊥
-no_like_member nodes op b operands members a e none m l =
-    let found = like_is_member nodes op b operands (numbers members) m a l in
-    none found.0 (omega (arith, found.1.0, numbers_long members))
-    (subst (λ list. IsLike nodes op b list (get_or (numbers members) found.0 0)) e (subst (λ n. IsLike nodes op b operands n) (sym found.1.1) l))
+pub no_like_listed : (nodes : List FirmNode) (op : NodeOp) (b : ℕ) (operands : List ℕ) (alike : List NodeId) → ((n : ℕ) → IsLike nodes op b [] n → 0 < times n (numbers alike)) → operands ≡ []
+    → ((index : ℕ) → index < length alike → IsLike nodes op b [] (get_or (numbers alike) index 0) → ⊥) → (m : ℕ) → IsLike nodes op b operands m → ⊥
+no_like_listed nodes op b operands alike all e none m like =
+    let l : IsLike nodes op b [] m = subst (λ list. IsLike nodes op b list m) e like in
+    let found = times_at m (numbers alike) (all m l) in
+    none found.0 (omega (arith, found.1.0, numbers_long alike)) (subst (λ n. IsLike nodes op b [] n) (sym found.1.1) l)
 
 -- the first of some operands, or none
 pub first_is : (operands : List NodeId) (first : NodeId) → Some first ≡ slice_get operands 0 → (0 < length operands) × (get_or (numbers operands) 0 0 ≡ first.number)

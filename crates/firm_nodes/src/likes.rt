@@ -19,7 +19,7 @@ pub(crate) fn like(nodes: &Nodes, op: NodeOp, block: usize, operands: &[NodeId])
     }
     match rarest(nodes, operands) {
         Some(rare) => like_among(nodes, nodes.users(rare.number), op, block, operands),
-        None => like_in(nodes, nodes.members(block), op, block),
+        None => like_in(nodes, nodes.alike(op, block), op, block),
     }
 }
 
@@ -62,18 +62,27 @@ fn like_among(
     None
 }
 
-// The same without operands, among nodes.
-fn like_in(nodes: &Nodes, members: &[NodeId], op: NodeOp, block: usize) -> Option<NodeId>
-    requires { (index : ℕ) → index < length members.now → slice_index (numbers members.now) index < length nodes.now }
+// The same without operands, among these.
+fn like_in(nodes: &Nodes, alike: &[NodeId], op: NodeOp, block: usize) -> Option<NodeId>
     ensures some { IfSome result (λ node. IsLike nodes.now op block [] node.number) }
-    ensures none { IfNone result ((index : ℕ) → index < length members.now → IsLike nodes.now op block [] (slice_index (numbers members.now) index) → ⊥) }
+    ensures none { IfNone result ((index : ℕ) → index < length alike.now → IsLike nodes.now op block [] (slice_index (numbers alike.now) index) → ⊥) }
 {
-    for node in members {
-        if nodes.is_like(node.number, op, block, &[]) {
+    for node in alike {
+        if is_like(nodes, *node, op, block) {
             return Some(*node);
         }
     }
     None
+}
+
+// Whether there is such a node, and it is like that.
+fn is_like(nodes: &Nodes, node: NodeId, op: NodeOp, block: usize) -> bool
+    ensures { MatchBool result (IsLike nodes.now op block [] node.number) (IsLike nodes.now op block [] node.number → ⊥) }
+{
+    if node.number >= nodes.len() {
+        return false;
+    }
+    nodes.is_like(node.number, op, block, &[])
 }
 
 fn is_pure(op: NodeOp) -> bool
