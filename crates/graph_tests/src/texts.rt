@@ -4,19 +4,30 @@ use crate::graphs::{FIRST, node};
 use cp_base::{Kind, Op, Relation, To};
 use firm_nodes::{BlockId, FirmEnd, Graph, Mode, NodeOp};
 use firm_text::firm_text;
-use std::alloc::AllocError;
+use std::alloc::{AllocError, Global};
 use std::test::Fail;
+
+// Whether this is the text of the graph.
+fn prints(alloc: Global, graph: &Graph, text: &str) -> Result<bool, AllocError> {
+    let printed = firm_text(alloc, graph)?;
+    Ok(printed.as_slice() == text.as_bytes())
+}
+
+fn put_seven(graph: &mut Graph) -> Result<(), AllocError> {
+    let seven = add(graph, FIRST, NodeOp::Const(7), &[])?;
+    end(graph, FIRST, FirmEnd::Return(node(0), Some(seven)))
+}
 
 #[test]
 fn return_seven(rt: HostRuntime) -> Result<(), Fail> {
     let mut graph = Graph::new(rt.alloc(), "main", 0)?;
-    let seven = add(&mut graph, FIRST, NodeOp::Const(7), &[])?;
-    end(&mut graph, FIRST, FirmEnd::Return(node(0), Some(seven)))?;
-    let text = firm_text(rt.alloc(), &graph)?;
-    assert!(rt;
-        text.as_slice()
-            == b"graph main 0\nblock 0 from\n0 Start\n1 Const 7\nreturn 0 1\n".as_slice()
-    );
+    put_seven(&mut graph)?;
+    let printed = prints(
+        rt.alloc(),
+        &graph,
+        "graph main 0\nblock 0 from\n0 Start\n1 Const 7\nreturn 0 1\n",
+    )?;
+    assert!(rt; printed);
     Ok(())
 }
 
@@ -27,14 +38,12 @@ fn put_ops(graph: &mut Graph, ops: &[Op]) -> Result<(), AllocError> {
     Ok(())
 }
 
-#[test]
-fn words(rt: HostRuntime) -> Result<(), Fail> {
-    let mut graph = Graph::new(rt.alloc(), "f", 2)?;
-    let _ = add(&mut graph, FIRST, NodeOp::Const(u32::MAX), &[])?;
-    let _ = add(&mut graph, FIRST, NodeOp::Addr(16), &[])?;
-    let _ = add(&mut graph, FIRST, NodeOp::Unknown, &[])?;
+fn put_words(graph: &mut Graph) -> Result<(), AllocError> {
+    let _ = add(graph, FIRST, NodeOp::Const(u32::MAX), &[])?;
+    let _ = add(graph, FIRST, NodeOp::Addr(16), &[])?;
+    let _ = add(graph, FIRST, NodeOp::Unknown, &[])?;
     put_ops(
-        &mut graph,
+        graph,
         &[
             Op::Add,
             Op::Sub,
@@ -50,12 +59,19 @@ fn words(rt: HostRuntime) -> Result<(), Fail> {
             Op::Or,
             Op::Eor,
         ],
+    )
+}
+
+#[test]
+fn words(rt: HostRuntime) -> Result<(), Fail> {
+    let mut graph = Graph::new(rt.alloc(), "f", 2)?;
+    put_words(&mut graph)?;
+    let printed = prints(
+        rt.alloc(),
+        &graph,
+        "graph f 2\nblock 0 from\n0 Start\n1 Param 0\n2 Param 1\n3 Const 4294967295\n4 Addr 16\n5 Unknown\n6 Add 1 2\n7 Sub 1 2\n8 Mul 1 2\n9 DivS 1 2\n10 DivU 1 2\n11 ModS 1 2\n12 ModU 1 2\n13 Shl 1 2\n14 ShrS 1 2\n15 ShrU 1 2\n16 And 1 2\n17 Or 1 2\n18 Eor 1 2\n",
     )?;
-    let text = firm_text(rt.alloc(), &graph)?;
-    assert!(rt;
-        text.as_slice()
-            == b"graph f 2\nblock 0 from\n0 Start\n1 Param 0\n2 Param 1\n3 Const 4294967295\n4 Addr 16\n5 Unknown\n6 Add 1 2\n7 Sub 1 2\n8 Mul 1 2\n9 DivS 1 2\n10 DivU 1 2\n11 ModS 1 2\n12 ModU 1 2\n13 Shl 1 2\n14 ShrS 1 2\n15 ShrU 1 2\n16 And 1 2\n17 Or 1 2\n18 Eor 1 2\n".as_slice()
-    );
+    assert!(rt; printed);
     Ok(())
 }
 
@@ -75,7 +91,7 @@ fn put_relations(graph: &mut Graph) -> Result<(), AllocError> {
         let op = NodeOp::Apply(Op::Cmp(*relation));
         let _ = add(graph, FIRST, op, &[node(1), node(1)])?;
     }
-    Ok(())
+    put_types(graph)
 }
 
 fn put_types(graph: &mut Graph) -> Result<(), AllocError> {
@@ -89,12 +105,12 @@ fn put_types(graph: &mut Graph) -> Result<(), AllocError> {
 fn relations_and_types(rt: HostRuntime) -> Result<(), Fail> {
     let mut graph = Graph::new(rt.alloc(), "f", 1)?;
     put_relations(&mut graph)?;
-    put_types(&mut graph)?;
-    let text = firm_text(rt.alloc(), &graph)?;
-    assert!(rt;
-        text.as_slice()
-            == b"graph f 1\nblock 0 from\n0 Start\n1 Param 0\n2 Cmp Eq 1 1\n3 Cmp Ne 1 1\n4 Cmp LtS 1 1\n5 Cmp LtU 1 1\n6 Cmp LeS 1 1\n7 Cmp LeU 1 1\n8 Cmp GtS 1 1\n9 Cmp GtU 1 1\n10 Cmp GeS 1 1\n11 Cmp GeU 1 1\n12 Conv U8 1\n13 Conv I8 1\n14 Conv U16 1\n15 Conv I16 1\n16 Conv Truth 1\n".as_slice()
-    );
+    let printed = prints(
+        rt.alloc(),
+        &graph,
+        "graph f 1\nblock 0 from\n0 Start\n1 Param 0\n2 Cmp Eq 1 1\n3 Cmp Ne 1 1\n4 Cmp LtS 1 1\n5 Cmp LtU 1 1\n6 Cmp LeS 1 1\n7 Cmp LeU 1 1\n8 Cmp GtS 1 1\n9 Cmp GtU 1 1\n10 Cmp GeS 1 1\n11 Cmp GeU 1 1\n12 Conv U8 1\n13 Conv I8 1\n14 Conv U16 1\n15 Conv I16 1\n16 Conv Truth 1\n",
+    )?;
+    assert!(rt; printed);
     Ok(())
 }
 
@@ -120,16 +136,21 @@ fn put_calls(graph: &mut Graph) -> Result<(), AllocError> {
     Ok(())
 }
 
+fn put_memories(graph: &mut Graph) -> Result<(), AllocError> {
+    put_accesses(graph)?;
+    put_calls(graph)
+}
+
 #[test]
 fn memories(rt: HostRuntime) -> Result<(), Fail> {
     let mut graph = Graph::new(rt.alloc(), "f", 1)?;
-    put_accesses(&mut graph)?;
-    put_calls(&mut graph)?;
-    let text = firm_text(rt.alloc(), &graph)?;
-    assert!(rt;
-        text.as_slice()
-            == b"graph f 1\nblock 0 from\n0 Start\n1 Param 0\n2 Load U8 0 1\n3 Store U8 0 1 1\n4 Load I8 0 1\n5 Store I8 0 1 1\n6 Load U16 0 1\n7 Store U16 0 1 1\n8 Load I16 0 1\n9 Store I16 0 1 1\n10 Load W32 0 1\n11 Store W32 0 1 1\n12 Call 9 0 1\n13 Get 0\n14 Put 0 1\n15 ProjM 12\n16 ProjR 12\n".as_slice()
-    );
+    put_memories(&mut graph)?;
+    let printed = prints(
+        rt.alloc(),
+        &graph,
+        "graph f 1\nblock 0 from\n0 Start\n1 Param 0\n2 Load U8 0 1\n3 Store U8 0 1 1\n4 Load I8 0 1\n5 Store I8 0 1 1\n6 Load U16 0 1\n7 Store U16 0 1 1\n8 Load I16 0 1\n9 Store I16 0 1 1\n10 Load W32 0 1\n11 Store W32 0 1 1\n12 Call 9 0 1\n13 Get 0\n14 Put 0 1\n15 ProjM 12\n16 ProjR 12\n",
+    )?;
+    assert!(rt; printed);
     Ok(())
 }
 
@@ -155,15 +176,20 @@ fn put_phis(graph: &mut Graph, block: BlockId) -> Result<(), AllocError> {
     Ok(())
 }
 
+fn put_joins(graph: &mut Graph) -> Result<(), AllocError> {
+    let join = put_ends(graph)?;
+    put_phis(graph, join)
+}
+
 #[test]
 fn ends_and_phis(rt: HostRuntime) -> Result<(), Fail> {
     let mut graph = Graph::new(rt.alloc(), "f", 1)?;
-    let join = put_ends(&mut graph)?;
-    put_phis(&mut graph, join)?;
-    let text = firm_text(rt.alloc(), &graph)?;
-    assert!(rt;
-        text.as_slice()
-            == b"graph f 1\nblock 0 from\n0 Start\n1 Param 0\nbranch 1 1 2\nblock 1 from 0\njump 2\nblock 2 from 0 1\n2 Phi Word 1 2\n3 Phi Memory 0\n4 Phi Tuple\nreturn 0\n".as_slice()
-    );
+    put_joins(&mut graph)?;
+    let printed = prints(
+        rt.alloc(),
+        &graph,
+        "graph f 1\nblock 0 from\n0 Start\n1 Param 0\nbranch 1 1 2\nblock 1 from 0\njump 2\nblock 2 from 0 1\n2 Phi Word 1 2\n3 Phi Memory 0\n4 Phi Tuple\nreturn 0\n",
+    )?;
+    assert!(rt; printed);
     Ok(())
 }
