@@ -4,3 +4,4 @@ pub mod EqualLaws
 pub mod MemberLaws
 pub mod LossLaws
 pub mod LeafLaws
+pub mod NamedLaws
