@@ -3,18 +3,10 @@
 // Each crate has a module here, so that it is proved once, without its tests. The tests have what no clause says: that the
 // calls succeed where there is memory, and that the clauses mean what they should. The expected values are worked by hand.
 //
-// `lists` has the lists of an obstack (`cp_obstack`); `uses` has rows that grow, and users with what they use (`firm_uses`);
-// `graphs` the calls of a graph (`firm_nodes`), which `checked` makes where their conditions hold, and `texts` the text of graphs
-// (`firm_text`).
+// `lists` has the lists of an obstack (`cp_obstack`); `uses` has rows that grow, and users with what they use (`firm_uses`).
 #![tactic(auto)]
 
 #[cfg(test)]
-mod checked;
-#[cfg(test)]
-mod graphs;
-#[cfg(test)]
 mod lists;
-#[cfg(test)]
-mod texts;
 #[cfg(test)]
 mod uses;
