@@ -43,37 +43,10 @@ users_within nodes used users i u h =
     let user = get_or users i 0 in
     used_within nodes user used (omega (arith, u user, times_found user users i 0 h refl))
 
-first_used : (operands : List ℕ) → 0 < length operands → 0 < times (get_or operands 0 0) operands
-first_used [] h = absurd (omega arith)
-first_used (x ∷ operands) h = omega (arith, one_same x)
-
--- a node with these operands is among the users of the first
-pub like_is_user : (nodes : List FirmNode) (op : NodeOp) (b : ℕ) (operands users : List ℕ) (first m : ℕ) → AreUsers nodes first users → 0 < length operands → get_or operands 0 0 ≡ first
+-- a node with these operands is among the users of each
+pub like_is_user : (nodes : List FirmNode) (op : NodeOp) (b : ℕ) (operands users : List ℕ) (used m : ℕ) → AreUsers nodes used users → 0 < times used operands
     → IsLike nodes op b operands m → (i : ℕ) × ((i < length users) × (get_or users i 0 ≡ m))
-like_is_user nodes op b operands users first m u h f l =
-    times_at m users
-    (omega (arith, u m, ap (times first) l.operands_are, ap (λ x. times x operands) f, first_used operands h))
-
-abbrev pub Lists : List FirmNode → ℕ → List ℕ → Type 0
-Lists nodes b members = (n : ℕ) → times n members ≡ (if stands_in (node_of nodes n) b then 1 else 0)
-
-stands_there : (nodes : List FirmNode) (n b : ℕ) → 0 < (if stands_in (node_of nodes n) b then 1 else 0) → n < length nodes
-stands_there [] n b h = absurd (omega arith)
-stands_there (node ∷ nodes) zero b h = omega arith
-stands_there (node ∷ nodes) (suc n) b h = omega (arith, stands_there nodes n b h)
-
-pub members_within : (nodes : List FirmNode) (b : ℕ) (members : List ℕ) (i : ℕ) → Lists nodes b members → i < length members → get_or members i 0 < length nodes
-members_within nodes b members i a h =
-    let n = get_or members i 0 in
-    stands_there nodes n b (omega (arith, a n, times_found n members i 0 h refl))
-
--- a node of the block is among its members
-pub like_is_member : (nodes : List FirmNode) (op : NodeOp) (b : ℕ) (operands members : List ℕ) (m : ℕ) → Lists nodes b members → IsLike nodes op b operands m
-    → (i : ℕ) × ((i < length members) × (get_or members i 0 ≡ m))
-like_is_member nodes op b operands members m a l =
-    let one : ℕ = 1 in
-    let here : (if stands_in (node_of nodes m) b then 1 else 0) ≡ one = ap₂ (λ x y. cond (x && y) 1 0) l.there (eq-eqb (node_of nodes m).block b l.block_is) in
-    times_at m members (omega (arith, a m, here))
+like_is_user nodes op b operands users used m u h l = times_at m users (omega (arith, u m, ap (times used) l.operands_are, h))
 
 -- ---- operands that fit
 
@@ -120,27 +93,39 @@ pub then_none : {T P Q : Type 0} (r : Option T) → IfNone r P → (P → Q) →
 then_none (Some x) p f = tt
 then_none None p f = f p
 
-pub no_like_user : (nodes : List FirmNode) (op : NodeOp) (b : ℕ) (operands users : List ℕ) (first : ℕ) → AreUsers nodes first users → 0 < length operands → get_or operands 0 0 ≡ first
+pub no_like_user : (nodes : List FirmNode) (op : NodeOp) (b : ℕ) (operands users : List ℕ) (used : ℕ) → AreUsers nodes used users → 0 < times used operands
     → ((index : ℕ) → index < length users → IsLike nodes op b operands (get_or users index 0) → ⊥) → (m : ℕ) → IsLike nodes op b operands m → ⊥
-no_like_user nodes op b operands users first u h f none m l =
-    let found = like_is_user nodes op b operands users first m u h f l in
+no_like_user nodes op b operands users used u h none m l =
+    let found = like_is_user nodes op b operands users used m u h l in
     none found.0 found.1.0 (subst (λ n. IsLike nodes op b operands n) (sym found.1.1) l)
 
-pub no_like_member : (nodes : List FirmNode) (op : NodeOp) (b : ℕ) (operands : List ℕ) (members : List NodeId) → Lists nodes b (numbers members) → operands ≡ []
-    → ((index : ℕ) → index < length members → IsLike nodes op b [] (get_or (numbers members) index 0) → ⊥) → (m : ℕ) → IsLike nodes op b operands m → ⊥
-no_like_member nodes op b operands members a e none m l =
-    let found = like_is_member nodes op b operands (numbers members) m a l in
-    none found.0 (omega (arith, found.1.0, numbers_long members))
-    (subst (λ list. IsLike nodes op b list (get_or (numbers members) found.0 0)) e (subst (λ n. IsLike nodes op b operands n) (sym found.1.1) l))
+pub no_like_listed : (nodes : List FirmNode) (op : NodeOp) (b : ℕ) (operands : List ℕ) (alike : List NodeId) → ((n : ℕ) → IsLike nodes op b [] n → 0 < times n (numbers alike)) → operands ≡ []
+    → ((index : ℕ) → index < length alike → IsLike nodes op b [] (get_or (numbers alike) index 0) → ⊥) → (m : ℕ) → IsLike nodes op b operands m → ⊥
+no_like_listed nodes op b operands alike all e none m like =
+    let l : IsLike nodes op b [] m = subst (λ list. IsLike nodes op b list m) e like in
+    let found = times_at m (numbers alike) (all m l) in
+    none found.0 (omega (arith, found.1.0, numbers_long alike)) (subst (λ n. IsLike nodes op b [] n) (sym found.1.1) l)
 
 -- the first of some operands, or none
-pub first_is : (operands : List NodeId) (first : NodeId) → Some first ≡ slice_get operands 0 → (0 < length (numbers operands)) × (get_or (numbers operands) 0 0 ≡ first.number)
+pub first_is : (operands : List NodeId) (first : NodeId) → Some first ≡ slice_get operands 0 → (0 < length operands) × (get_or (numbers operands) 0 0 ≡ first.number)
 first_is [] first e = absurd (cc)
 first_is (x ∷ operands) first e = (omega arith, sym (ap (λ o. (unwrap_or o x).number) e))
 
 pub none_is : (operands : List NodeId) → None ≡ slice_get operands 0 → numbers operands ≡ []
 none_is [] e = refl
 none_is (x ∷ operands) e = absurd (cc)
+
+-- what stands at some place of the operands
+pub record IsOperand (nodes : List FirmNode) (operands : List NodeId) (n : ℕ) : Type 0 where
+  pub within : n < length nodes
+  pub among : 0 < times n (numbers operands)
+
+pub operand_at : (nodes : List FirmNode) (operands : List NodeId) (i n : ℕ) → ((index : ℕ) → index < length operands → get_or (numbers operands) index 0 < length nodes)
+    → i < length operands → get_or (numbers operands) i 0 ≡ n → IsOperand nodes operands n
+operand_at nodes operands i n all h is = record {
+  within = subst (λ x. x < length nodes) is (all i h);
+  among = times_found n (numbers operands) i 0 (omega (arith, h, numbers_long operands)) is;
+}
 
 -- ---- the first nodes
 

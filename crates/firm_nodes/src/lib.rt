@@ -3,8 +3,8 @@
 // In come blocks, nodes and ends; out go their names, by which they are read and changed. A name is never used again.
 //
 // The idea: the nodes and the blocks stand in the tables of `firm_tables`, and the graph has the order of the blocks besides. Contracts
-// see the graph as data, as `firm_rules` has it. A pure node is shared: an equal one is sought among the users of its first operand, or,
-// where it has none, among the nodes of its block.
+// see the graph as data, as `firm_rules` has it. A pure node is shared: an equal one is sought among the users of the operand that has
+// the fewest, or, where it has none, among the nodes of its block with that operation.
 //
 // The invariant: each block of the order, and each target of an end, is a block that was made.
 //

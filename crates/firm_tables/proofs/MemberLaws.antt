@@ -2,7 +2,10 @@
 use Rattle.std.proofs.Common.{◌≡◌, ◌≢◌, ◌==◌, ℕ, zero, suc, ◌+◌, ◌<◌, ◌≤◌, Bool, true, false, ◌&&◌, List, [], ◌∷◌, ◌++◌, length, map, get_or, set, refl, sym, ap, ap₂, ◌∙◌, arith, if◌then◌else◌, cond, inl, inr, true≢false}
 use Rattle.std.proofs.lemmas.Bool.{cases_eq, cases_lt, eq-eqb, ne_eqb}
 use Rattle.std.proofs.lemmas.List.{get_or-set_same, get_or-set_other, get_or_at, length-map}
-use Rattle.std.specs.List.{remove}
+use Rattle.std.proofs.lemmas.List.Sums.{sum_by-cons}
+use Rattle.std.proofs.lemmas.List.Sorted.{sum_by-IsPermutation, IsPermutation-map, IsPermutation-swap_remove}
+use Rattle.std.specs.List.{remove, swap_remove, sum_by}
+use Rattle.std.specs.List.Sorted.{IsPermutation}
 use Rattle.cp_obstack.specs.Lists.{list_of}
 use Rattle.firm_uses.specs.Counts.{times}
 use Rattle.firm_uses.proofs.CountLaws.{one, one_same, one_other, times_push, times-remove}
@@ -24,7 +27,7 @@ and_false false = refl
 in_other : (row : Stored) (b : ℕ) → row.block ≢ b → count row b ≡ 0
 in_other row b ne = ap (λ x. cond (row.there && x) 1 0) (ne_eqb row.block b ne) ∙ ap (λ x. cond x 1 0) (and_false row.there)
 
-in_own : (row : Stored) (b : ℕ) → row.there ≡ true → row.block ≡ b → count row b ≡ 1
+pub in_own : (row : Stored) (b : ℕ) → row.there ≡ true → row.block ≡ b → count row b ≡ 1
 in_own row b there e = ap₂ (λ x y. cond (x && y) 1 0) there (eq-eqb row.block b e)
 
 in_none : (row : Stored) (b : ℕ) → row.there ≡ false → count row b ≡ 0
@@ -54,11 +57,14 @@ stands_row os cs rows n b = elim (cases_lt n (length rows)) [
   | inr le ↦ ap (λ (node : FirmNode). stands_in node b) (past_nodes os cs rows n le) ∙ sym (ap (λ (r : Stored). is_in r b) (past_rows rows n le))
 ]
 
-read_old : (rows : List Stored) (row : Stored) (n : ℕ) → n ≢ length rows → get_or (rows ++ row ∷ []) n no_row ≡ get_or rows n no_row
+pub read_old : (rows : List Stored) (row : Stored) (n : ℕ) → n ≢ length rows → get_or (rows ++ row ∷ []) n no_row ≡ get_or rows n no_row
 read_old [] row zero ne = absurd (ne refl)
 read_old [] row (suc n) ne = refl
 read_old (r ∷ rows) row zero ne = refl
 read_old (r ∷ rows) row (suc n) ne = read_old rows row n (λ e. ne (ap suc e))
+
+pub row_last : (rows : List Stored) (row : Stored) (n : ℕ) → n ≡ length rows → get_or (rows ++ row ∷ []) n no_row ≡ row
+row_last rows row n new = get_or_at rows row [] no_row n (sym new)
 
 -- ---- a node that comes
 
@@ -212,3 +218,20 @@ members_back members pushed back block number p po r ro b n = elim (cases_eq b b
 pub is_member : (members pushed : List (List ℕ)) (block number : ℕ) → list_of pushed block ≡ list_of members block ++ number ∷ [] → 0 < times number (list_of pushed block)
 is_member members pushed block number p =
     omega (arith, ap (times number) p, times_push number (list_of members block) number, one_same number)
+
+-- ---- the last node comes into the place of one that goes
+
+times_sum : (x : ℕ) (list : List ℕ) → times x list ≡ sum_by (one x) list
+times_sum x [] = refl
+times_sum x (y ∷ list) = ap (λ k. one x y + k) (times_sum x list) ∙ sym (sum_by-cons (one x) y list)
+
+times_permuted : (x : ℕ) (list after : List ℕ) → IsPermutation list after → times x after ≡ times x list
+times_permuted x list after moved = times_sum x after ∙ sum_by-IsPermutation (one x) list after moved ∙ sym (times_sum x list)
+
+pub swapped_one : (list after : List NodeId) (place node x : ℕ) (gone : NodeId) → place < length list → get_or (numbers list) place 0 ≡ node → gone ≡ get_or list place gone
+    → after ≡ swap_remove list place gone → times x (numbers after) + (one x node + 0) ≡ times x (numbers list)
+swapped_one list after place node x gone h is read e =
+    let moved = IsPermutation-map (λ (id : NodeId). id.number) list (gone ∷ swap_remove list place gone) (IsPermutation-swap_remove list place gone h read) in
+    let counted = times_permuted x (numbers list) (gone.number ∷ numbers (swap_remove list place gone)) moved in
+    let its : gone.number ≡ node = ap (λ (id : NodeId). id.number) read ∙ sym (number_at list place gone h) ∙ is in
+    omega (arith, counted, ap (λ l. times x (numbers l)) e, ap (one x) its)

@@ -1,3 +1,5 @@
 pub mod Nodes
 pub mod Blocks
 pub mod Held
+pub mod Leaves
+pub mod Named

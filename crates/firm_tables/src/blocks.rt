@@ -7,6 +7,7 @@ ghost use Rattle.firm_rules.specs.Replacing.{renamed_id, renamed_end as end_rena
 ghost use Rattle.firm_tables.specs.Held.{pushed, renamed_row};
 ghost use Rattle.firm_tables.specs.Blocks.{new_block, block_of, with_preds, with_end, sealed_at, linked, renamed_block};
 
+use crate::named::{Named, name_all};
 use firm_rules::{FirmEnd, NodeId};
 use firm_uses::Rows;
 use std::alloc::{AllocError, Global};
@@ -23,6 +24,7 @@ struct StoredBlock {
 pub struct Blocks {
     rows: Vec<StoredBlock>,
     preds: Rows,
+    named: Named,
 }
 
 impl Model for Blocks {
@@ -35,7 +37,9 @@ impl Model for Blocks {
 
     ghost view = { λ b. blocks_from 0 b.preds.rows b.rows.items };
 
-    ghost invariant = { λ b. AreListed (length b.rows.items) b.preds.rows };
+    ghost use Rattle.firm_tables.specs.Named.{AreNamed, may_name};
+
+    ghost invariant = { λ b. AreListed (length b.rows.items) b.preds.rows × AreNamed b.rows.items (may_name b.named) };
 }
 
 impl Blocks {
@@ -46,6 +50,7 @@ impl Blocks {
         Blocks {
             rows: Vec::new(alloc),
             preds: Rows::new(alloc),
+            named: Named::new(alloc),
         }
     }
 
@@ -111,6 +116,7 @@ impl Blocks {
         ensures { self.new ≡ with_end self.old block end }
     {
         let StoredBlock { sealed, .. } = self.rows[block];
+        name_all(&mut self.named, end);
         self.rows[block] = StoredBlock { end, sealed };
     }
 
@@ -138,11 +144,15 @@ impl Blocks {
         }
     }
 
-    /// Puts a node in the place of another in each end.
+    /// Puts a node in the place of another in each end. Where no end named it, the ends are not looked at.
     pub fn rename(&mut self, old: usize, to: usize)
         ensures { self.new ≡ map (renamed_block old to) self.old }
     {
+        if !self.named.has(old) {
+            return;
+        }
         rename_ends(&mut self.rows, old, to);
+        self.named.add(to);
     }
 }
 

@@ -13,6 +13,8 @@ use std::marker::Model;
 pub(crate) struct Members {
     alloc: Global,
     lists: Vec<Vec<NodeId>>,
+    // For each node the place where it was last put in its list. This is a hint alone: it is read where it is right.
+    places: Vec<usize>,
 }
 
 impl Model for Members {
@@ -32,6 +34,7 @@ impl Members {
         Members {
             alloc,
             lists: Vec::new(alloc),
+            places: Vec::new(alloc),
         }
     }
 
@@ -50,8 +53,10 @@ impl Members {
         ensures err { OnErr result (list_of self.new block ≡ list_of self.old block) }
         ensures others { (other : ℕ) → other ≢ block → list_of self.new other ≡ list_of self.old other }
     {
+        let place = self.list(block).len();
         self.widen(block)?;
         self.lists[block].push(NodeId { number: node })?;
+        let _ = note(&mut self.places, node, place);
         Ok(())
     }
 
@@ -72,16 +77,57 @@ impl Members {
         ensures this { (x : ℕ) → times x (list_of self.new block) + times x (node ∷ []) ≡ times x (list_of self.old block) }
         ensures others { (other : ℕ) → other ≢ block → list_of self.new other ≡ list_of self.old other }
     {
-        remove_one(&mut self.lists[block], node);
+        let place = remove_one(&mut self.lists[block], node, hint(&self.places, node));
+        settle(&mut self.places, &self.lists[block], place);
     }
 }
 
-fn remove_one(list: &mut Vec<NodeId>, node: usize)
+// Notes the place of the node.
+fn note(places: &mut Vec<usize>, node: usize, place: usize) -> Result<(), AllocError> {
+    while places.len() <= node {
+        places.push(0)?;
+    }
+    places[node] = place;
+    Ok(())
+}
+
+// Notes the place of the node that stands there.
+fn settle(places: &mut [usize], list: &[NodeId], place: usize) {
+    if place >= list.len() {
+        return;
+    }
+    let node = list[place].number;
+    if node < places.len() {
+        places[node] = place;
+    }
+}
+
+fn hint(places: &[usize], node: usize) -> usize {
+    if node < places.len() { places[node] } else { 0 }
+}
+
+// Takes the node out; the last one comes into its place, which is the result.
+fn remove_one(list: &mut Vec<NodeId>, node: usize, hint: usize) -> usize
     requires { 0 < times node (numbers list.old.items) }
     ensures { (x : ℕ) → times x (numbers list.new.items) + times x (node ∷ []) ≡ times x (numbers list.old.items) }
 {
-    let place = last_place(list, node);
-    let _ = list.remove(place);
+    let place = place_of(list, node, hint);
+    let _ = list.swap_remove(place);
+    place
+}
+
+// A place of the node: the hint where it is one.
+fn place_of(list: &[NodeId], node: usize, hint: usize) -> usize
+    requires { 0 < times node (numbers list.now) }
+    ensures within { result < length list.now }
+    ensures is { slice_index (numbers list.now) result ≡ node }
+{
+    if hint < list.len() {
+        if list[hint].number == node {
+            return hint;
+        }
+    }
+    last_place(list, node)
 }
 
 // The last place of the node.

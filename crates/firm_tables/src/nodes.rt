@@ -8,6 +8,7 @@ ghost use Rattle.firm_rules.specs.Rules.{is_phi as op_is_phi};
 ghost use Rattle.firm_tables.specs.Held.{no_row, lost_operand, lost_times, Covers, IsRow};
 ghost use Rattle.firm_tables.specs.Nodes.{numbers, stands_in, IsLike, node_of, made, with_operands, without, without_operand, renamed_node, replaced};
 
+use crate::leaves::Leaves;
 use crate::members::Members;
 use crate::uses::{be_own, enter};
 use firm_rules::{BlockId, NodeId, NodeOp};
@@ -37,6 +38,7 @@ pub struct Nodes {
     // What is now in the place of each.
     currents: Uses,
     members: Members,
+    leaves: Leaves,
 }
 
 impl Model for Nodes {
@@ -46,10 +48,11 @@ impl Model for Nodes {
     ghost Value = { List FirmNode };
 
     ghost use Rattle.firm_tables.specs.Held.{nodes_from, AreHeld, AreMembers};
+    ghost use Rattle.firm_tables.specs.Leaves.{AreLeaves};
 
     ghost view = { λ n. nodes_from 0 n.operands.uses n.currents.uses n.rows.items };
 
-    ghost invariant = { λ n. AreHeld (length n.rows.items) n.operands n.currents × AreMembers n.rows.items n.members };
+    ghost invariant = { λ n. AreHeld (length n.rows.items) n.operands n.currents × (AreMembers n.rows.items n.members × AreLeaves n.rows.items n.leaves) };
 }
 
 impl Nodes {
@@ -62,6 +65,7 @@ impl Nodes {
             operands: Uses::new(alloc),
             currents: Uses::new(alloc),
             members: Members::new(alloc),
+            leaves: Leaves::new(alloc),
         }
     }
 
@@ -87,6 +91,7 @@ impl Nodes {
         let number = self.rows.len();
         self.rows.reserve(1)?;
         be_own(&mut self.currents, number)?;
+        self.leaves.enlist(op, block, number)?;
         self.members.push(block, number)?;
         if enter(&mut self.operands, number, operands).is_err() {
             self.members.remove(block, number);
@@ -164,6 +169,16 @@ impl Nodes {
         self.members.list(block)
     }
 
+    /// At least the nodes that are there in the block with the operation and without operands.
+    pub fn alike(&self, op: NodeOp, block: usize) -> &[NodeId]
+        ensures { (n : ℕ) → IsLike self.now op block [] n → 0 < times n (numbers result.now) }
+    {
+        match self.leaves.list(op, block) {
+            Some(list) => list,
+            None => self.members.list(block),
+        }
+    }
+
     /// The node has one operand more, last.
     pub fn append(&mut self, number: usize, operand: usize) -> Result<(), AllocError>
         requires there { number < length self.old }
@@ -201,6 +216,7 @@ impl Nodes {
         ensures { self.new ≡ without self.old number }
     {
         let Stored { op, block, .. } = self.rows[number];
+        self.leaves.strike(op, block, number);
         self.operands.clear(number);
         self.members.remove(block, number);
         self.rows[number] = Stored {

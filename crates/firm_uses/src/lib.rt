@@ -4,7 +4,8 @@
 // A node of a graph uses its operands, and the end of a block the nodes that it names.
 //
 // The idea: `Rows` is a table of lists, each of which grows by itself. They stand in an obstack, and one that is full moves to a
-// longer list there, of twice the length. `Uses` is two such tables, one for each way.
+// longer list there, of twice the length. `Uses` is two such tables, one for each way, with hints on where each user stands, so that it is taken out at
+// once.
 //
 // The invariant of `Rows`: no two rows have one list of the obstack. That of `Uses`: a used one lists each user as often as
 // that one uses it.
@@ -14,6 +15,7 @@
 #![tactic(auto)]
 
 mod edits;
+mod hints;
 mod places;
 mod rows;
 mod uses;

@@ -3,6 +3,7 @@ ghost use Rattle.std.specs.Prelude.{◌≡◌, ◌≢◌, ◌+◌, ◌<◌, ◌�
 ghost use Rattle.cp_obstack.specs.Lists.{list_of};
 ghost use Rattle.firm_uses.specs.Counts.{times, renamed_rows};
 
+use crate::hints::Hints;
 use crate::rows::Rows;
 
 // The last place of the value.
@@ -18,30 +19,45 @@ fn last_place(list: &[usize], value: usize) -> usize
     place
 }
 
+// A place of the value: the hint where it is one.
+fn place_of(list: &[usize], value: usize, hint: usize) -> usize
+    requires { 0 < times value list.now }
+    ensures within { result < length list.now }
+    ensures is { slice_index list.now result ≡ value }
+{
+    if hint < list.len() {
+        if list[hint] == value {
+            return hint;
+        }
+    }
+    last_place(list, value)
+}
+
 /// Takes one user of the used one out of its users.
-pub(crate) fn forget_one(users: &mut Rows, used: usize, user: usize)
+pub(crate) fn forget_one(users: &mut Rows, hints: &mut Hints, used: usize, user: usize)
     requires there { used < length users.old.rows }
     requires among { 0 < times user (list_of users.old.rows used) }
     ensures length { length users.new.rows ≡ length users.old.rows }
     ensures this { (x : ℕ) → times x (list_of users.new.rows used) + times x (user ∷ []) ≡ times x (list_of users.old.rows used) }
     ensures others { (other : ℕ) → other ≢ used → list_of users.new.rows other ≡ list_of users.old.rows other }
 {
-    let place = last_place(users.list(used), user);
+    let place = place_of(users.list(used), user, hints.get(user, used));
     let last = users.list(used).len() - 1;
     let moved = users.list(used)[last];
     users.set(used, place, moved);
     users.truncate(used, last);
+    hints.note(moved, used, place);
 }
 
 /// Takes the user out of the users of each of these.
-pub(crate) fn forget(users: &mut Rows, all_used: &[usize], user: usize)
+pub(crate) fn forget(users: &mut Rows, hints: &mut Hints, all_used: &[usize], user: usize)
     requires { (used : ℕ) → times used all_used.now ≤ times user (list_of users.old.rows used) }
     ensures length { length users.new.rows ≡ length users.old.rows }
     ensures users { (x used : ℕ) → times x (list_of users.new.rows used) + (if x == user then times used all_used.now else 0)
         ≡ times x (list_of users.old.rows used) }
 {
     for used in all_used {
-        forget_one(users, *used, user);
+        forget_one(users, hints, *used, user);
     }
 }
 

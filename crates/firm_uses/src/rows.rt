@@ -74,8 +74,27 @@ impl Rows {
         front_of(self.numbers.list(span), len)
     }
 
-    /// Makes room for so many more numbers in the row.
+    /// Makes room for so many more numbers in the row. A list that is full doubles, so that many small wishes cost no more than the
+    /// numbers that come.
     pub fn reserve(&mut self, row: usize, more: usize) -> Result<(), AllocError>
+        requires { row < length self.old.rows }
+        ensures room { OnOk result (more ≤ room_of self.new row) }
+        ensures within { more ≤ room_of self.old row → IsOk result }
+        ensures rows { self.new.rows ≡ self.old.rows }
+        ensures err { OnErr result (self.new ≡ self.old) }
+    {
+        if more == 0 {
+            return Ok(());
+        }
+        if self.is_full(row) {
+            let wanted = larger(more, self.list(row).len());
+            return self.grow(row, wanted);
+        }
+        self.grow(row, more)
+    }
+
+    // Makes room for so many more numbers in the row, and for no others.
+    fn grow(&mut self, row: usize, more: usize) -> Result<(), AllocError>
         requires { row < length self.old.rows }
         ensures room { OnOk result (more ≤ room_of self.new row) }
         ensures within { more ≤ room_of self.old row → IsOk result }
@@ -151,6 +170,13 @@ impl Rows {
         let span = self.rows[row].span;
         self.rows[row] = Row { span, len };
     }
+}
+
+fn larger(a: usize, b: usize) -> usize
+    ensures first { a ≤ result }
+    ensures second { b ≤ result }
+{
+    if a < b { b } else { a }
 }
 
 fn front_of(numbers: &[usize], len: usize) -> &[usize]

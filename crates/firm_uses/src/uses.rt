@@ -5,6 +5,7 @@ ghost use Rattle.cp_obstack.specs.Lists.{list_of};
 ghost use Rattle.firm_uses.specs.Tables.{with_list};
 ghost use Rattle.firm_uses.specs.Counts.{times, renamed_rows, HasRoom};
 
+use crate::hints::{Hints, note_all};
 use crate::places::{forget, forget_one, rename_all};
 use crate::rows::Rows;
 use std::alloc::{AllocError, Global};
@@ -15,6 +16,7 @@ use std::marker::Model;
 pub struct Uses {
     uses: Rows,
     users: Rows,
+    hints: Hints,
 }
 
 impl Model for Uses {
@@ -37,6 +39,7 @@ impl Uses {
         Uses {
             uses: Rows::new(alloc),
             users: Rows::new(alloc),
+            hints: Hints::new(alloc),
         }
     }
 
@@ -97,7 +100,9 @@ impl Uses {
     {
         self.users.reserve(used, 1)?;
         self.uses.push(user, used)?;
+        let place = self.users.list(used).len();
         let _ = self.users.push(used, user);
+        self.hints.note(user, used, place);
         Ok(())
     }
 
@@ -109,7 +114,7 @@ impl Uses {
         ensures loads { length self.new.loads ≡ length self.old.loads }
     {
         let used = self.uses.list(user)[index];
-        forget_one(&mut self.users, used, user);
+        forget_one(&mut self.users, &mut self.hints, used, user);
         self.uses.remove(user, index);
     }
 
@@ -119,7 +124,7 @@ impl Uses {
         ensures uses { self.new.uses ≡ with_list self.old.uses user [] }
         ensures loads { length self.new.loads ≡ length self.old.loads }
     {
-        forget(&mut self.users, self.uses.list(user), user);
+        forget(&mut self.users, &mut self.hints, self.uses.list(user), user);
         self.uses.truncate(user, 0);
     }
 
@@ -145,8 +150,10 @@ impl Uses {
         ensures within { HasRoom self.old old to → IsOk result }
         ensures err { OnErr result (self.new.uses ≡ self.old.uses) }
     {
+        let first = self.users.list(to).len();
         self.users.extend(to, old)?;
         rename_all(&mut self.uses, self.users.list(old), old, to);
+        note_all(&mut self.hints, self.users.list(old), to, first);
         self.users.truncate(old, 0);
         Ok(())
     }

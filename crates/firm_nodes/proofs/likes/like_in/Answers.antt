@@ -5,14 +5,10 @@ use Rattle.firm_tables.proofs.MemberLaws.{number_at}
 use Rattle.firm_nodes.proofs.LikeLaws.{none_more}
 use Rattle.firm_nodes.proofs.likes.like_in.Goals as goal
 
-pub is_like-requires : goal.is_like-requires
-is_like-requires c =
-    omega (arith, c.requires c.loop-node.node-index c.loop-node-test.true, number_at c.args.members.now c.loop-node.node-index (record { number = 0 }) c.loop-node-test.true)
-
 pub loop-node-preserved : goal.loop-node-preserved
 loop-node-preserved c =
     let nodes = c.args.nodes.now in
-    let list = c.args.members.now in
+    let list = c.args.alike.now in
     let at = c.loop-node.node-index in
     none_more (λ i. IsLike nodes c.args.op c.args.block [] (get_or (numbers list) i 0)) at c.loop-node.invariant
     (λ like. refuses c.is_like.result c.if-is_like.false c.is_like.ensures

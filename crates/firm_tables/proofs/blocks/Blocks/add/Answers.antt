@@ -19,7 +19,7 @@ returns-clause-ok c =
     let pushed = in_time c.push.result c.push.new.self.items c.reserve.new.self.items rows no_block (c.push.ensures.succeeds (omega (arith, c.in_ok-reserve.ensures.ok))) c.push.ensures.items
     c.reserve.ensures.items in
     ap (λ rs. blocks_from 0 c.list_for.new.preds.rows rs) pushed
-    ∙ block_made preds c.list_for.new.preds.rows rows (c.self.invariant.empty (length rows) (omega arith)) c.list_for.ensures.same
+    ∙ block_made preds c.list_for.new.preds.rows rows (c.self.invariant.0.empty (length rows) (omega arith)) c.list_for.ensures.same
     ∙ ap (λ bs. bs ++ new_block ∷ []) c.self.view_is
 
 pub returns-clause-number : goal.returns-clause-number

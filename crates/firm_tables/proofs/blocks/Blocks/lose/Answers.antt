@@ -6,7 +6,7 @@ use Rattle.firm_tables.proofs.BlockLaws.{list_there, seen_preds, preds_are}
 use Rattle.firm_tables.proofs.blocks.Blocks.lose.Goals as goal
 
 pub remove-requires-clause-there : goal.remove-requires-clause-there
-remove-requires-clause-there c = list_there c.self.inside.preds.rows c.self.inside.rows.items c.args.self.now c.args.block c.self.view_is c.self.invariant c.requires.there
+remove-requires-clause-there c = list_there c.self.inside.preds.rows c.self.inside.rows.items c.args.self.now c.args.block c.self.view_is c.self.invariant.0 c.requires.there
 
 pub remove-requires-clause-within : goal.remove-requires-clause-within
 remove-requires-clause-within c =
@@ -16,6 +16,6 @@ pub returns : goal.returns
 returns c =
     let preds = c.self.inside.preds.rows in
     let rows = c.self.inside.rows.items in
-    let there = list_there preds rows c.args.self.now c.args.block c.self.view_is c.self.invariant c.requires.there in
+    let there = list_there preds rows c.args.self.now c.args.block c.self.view_is c.self.invariant.0 c.requires.there in
     preds_are preds c.remove.new.self.rows rows c.args.block (remove (list_of preds c.args.block) c.args.index) there c.remove.ensures
     ∙ ap₂ (λ bs l. with_preds bs c.args.block (remove l c.args.index)) c.self.view_is (seen_preds preds rows c.args.self.now c.args.block c.self.view_is c.requires.there)

@@ -12,7 +12,7 @@ pub lose_at-requires-clause-there : goal.lose_at-requires-clause-there
 lose_at-requires-clause-there c = λ index h.
     omega (
       arith,
-      listed_within c.self.inside.rows.items c.self.inside.members c.args.block (numbers c.list.result.now) c.self.invariant.1 c.list.ensures index
+      listed_within c.self.inside.rows.items c.self.inside.members c.args.block (numbers c.list.result.now) c.self.invariant.1.0 c.list.ensures index
           (omega (arith, h, numbers_long c.list.result.now)),
       ap length c.deref.ensures.value,
     )
@@ -20,6 +20,6 @@ lose_at-requires-clause-there c = λ index h.
 pub returns : goal.returns
 returns c =
     lost_seen c.args.block c.args.place c.self.inside.operands.uses c.self.inside.currents.uses c.lose_at.new.operands.uses c.self.inside.members c.self.inside.rows.items c.args.self.now
-    (numbers c.list.result.now) c.self.view_is c.self.invariant.1 c.list.ensures
+    (numbers c.list.result.now) c.self.view_is c.self.invariant.1.0 c.list.ensures
     (subst (λ (rows : List Stored). (n : ℕ) → list_of c.lose_at.new.operands.uses n ≡ lost_times (times n (numbers c.list.result.now)) (get_or rows n no_row).op c.args.place (list_of c.self.inside.operands.uses n))
     c.deref.ensures.value c.lose_at.ensures.lists)

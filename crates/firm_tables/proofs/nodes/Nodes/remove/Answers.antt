@@ -4,6 +4,7 @@ use Rattle.firm_rules.specs.Graphs.{FirmNode}
 use Rattle.firm_tables.specs.declared.nodes.Stored.{Stored}
 use Rattle.firm_tables.specs.Held.{AreHeld}
 use Rattle.firm_tables.proofs.NodeLaws.{node_within, node_there, row_is, seen_node, held_set, gone_seen}
+use Rattle.firm_tables.proofs.LeafLaws.{leaf_of_row, leaves_gone}
 use Rattle.firm_tables.proofs.MemberLaws.{has_member, member_gone}
 use Rattle.firm_tables.proofs.nodes.Nodes.remove.Goals as goal
 
@@ -17,10 +18,18 @@ pub clear-requires : goal.clear-requires
 clear-requires c =
     omega (arith, node_there c.self.inside.operands.uses c.self.inside.currents.uses c.self.inside.rows.items c.args.self.now c.args.number c.self.view_is (node_within c.args.self.now c.args.number c.requires), c.self.invariant.0.operands_cover.users)
 
+pub strike-requires : goal.strike-requires
+strike-requires c = λ code coded.
+    let within = node_within c.args.self.now c.args.number c.requires in
+    leaf_of_row c.self.inside.rows.items c.self.inside.leaves c.args.number code c.index.result.now c.self.invariant.1.1
+    (row_is c.self.inside.rows.items c.args.number c.index.result.now (node_there c.self.inside.operands.uses c.self.inside.currents.uses c.self.inside.rows.items c.args.self.now c.args.number c.self.view_is within) c.index.ensures)
+    (ap (λ (node : FirmNode). node.there) (seen_node c.self.inside.operands.uses c.self.inside.currents.uses c.self.inside.rows.items c.args.self.now c.args.number c.index.result.now c.self.view_is within c.index.ensures) ∙ c.requires)
+    coded
+
 pub remove-requires : goal.remove-requires
 remove-requires c =
     let within = node_within c.args.self.now c.args.number c.requires in
-    has_member c.self.inside.rows.items c.self.inside.members c.args.number c.index.result.now c.self.invariant.1
+    has_member c.self.inside.rows.items c.self.inside.members c.args.number c.index.result.now c.self.invariant.1.0
     (row_is c.self.inside.rows.items c.args.number c.index.result.now (node_there c.self.inside.operands.uses c.self.inside.currents.uses c.self.inside.rows.items c.args.self.now c.args.number c.self.view_is within) c.index.ensures)
     (ap (λ (node : FirmNode). node.there) (seen_node c.self.inside.operands.uses c.self.inside.currents.uses c.self.inside.rows.items c.args.self.now c.args.number c.index.result.now c.self.view_is within c.index.ensures) ∙ c.requires)
 
@@ -33,8 +42,11 @@ invariant_of-self c =
     let there = node_there c.self.inside.operands.uses c.self.inside.currents.uses c.self.inside.rows.items c.args.self.now c.args.number c.self.view_is within in (
       subst (λ n. AreHeld n c.clear.new.self c.self.inside.currents) (sym (length-set rows c.args.number gone))
           (held_set (length rows) c.args.number [] c.self.inside.operands c.self.inside.currents c.clear.new.self c.self.invariant.0 there c.clear.ensures.uses c.clear.ensures.loads),
-      member_gone rows c.self.inside.members c.remove.new.self c.args.number gone was c.self.invariant.1 (row_is rows c.args.number was there c.index.ensures)
-          (ap (λ (node : FirmNode). node.there) (seen_node c.self.inside.operands.uses c.self.inside.currents.uses c.self.inside.rows.items c.args.self.now c.args.number was c.self.view_is within c.index.ensures) ∙ c.requires) refl c.remove.ensures.this c.remove.ensures.others,
+      (
+        member_gone rows c.self.inside.members c.remove.new.self c.args.number gone was c.self.invariant.1.0 (row_is rows c.args.number was there c.index.ensures)
+            (ap (λ (node : FirmNode). node.there) (seen_node c.self.inside.operands.uses c.self.inside.currents.uses c.self.inside.rows.items c.args.self.now c.args.number was c.self.view_is within c.index.ensures) ∙ c.requires) refl c.remove.ensures.this c.remove.ensures.others,
+        leaves_gone rows c.args.number gone c.self.inside.leaves c.strike.new.self there refl c.self.invariant.1.1 c.strike.ensures,
+      ),
     )
 
 pub returns : goal.returns

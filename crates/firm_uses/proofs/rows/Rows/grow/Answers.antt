@@ -3,7 +3,7 @@ use Rattle.firm_uses.specs.Tables.{Table, room_of}
 use Rattle.firm_uses.specs.declared.rows.Row.{Row}
 use Rattle.firm_uses.specs.Held.{seen, front, room, row_at, AreApart}
 use Rattle.firm_uses.proofs.HeldLaws.{row_is, many_seen, moved_rows, moved_room, moved_apart, room_read, within_row, within_read}
-use Rattle.firm_uses.proofs.rows.Rows.reserve.Goals as goal
+use Rattle.firm_uses.proofs.rows.Rows.grow.Goals as goal
 
 pub returns-clause-room : goal.returns-clause-room
 returns-clause-room c =

@@ -1,0 +1,4 @@
+pub mod PlaceLaws
+pub mod SortedLaws
+pub mod PrintLaws
+pub mod TextVectors
