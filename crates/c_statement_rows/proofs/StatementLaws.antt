@@ -1,23 +1,22 @@
 -- What statements mean by their kinds and by what their parts mean.
-use Rattle.std.proofs.Common.{◌≡◌, ◌++◌, ℕ, Bool, true, false, List, [], ◌∷◌, Option, Some, None, refl, sym, ap, ◌∙◌, subst}
-use Rattle.std.specs.Prelude.{IfOk, MatchOption, Result, Ok, Err, is_some, if◌then◌else◌, not, option_map}
+use Rattle.std.proofs.Common.{◌≡◌, ◌≤◌, ℕ, zero, suc, Bool, true, false, List, [], ◌∷◌, Option, Some, None, length, refl, sym, ap, ◌∙◌, subst, arith}
+use Rattle.std.specs.Prelude.{MatchOption, Err, is_some, option_map, slice_get, ◌&&◌}
 use Rattle.std.proofs.lemmas.Bool.{false≢true}
 use Rattle.c_syntax.specs.declared.kind.SynKind.TheVariants as kind
 use Rattle.c_syntax.specs.declared.syntax.SynNode.{SynNode}
 use Rattle.c_types.specs.declared.tree.Stmt.{Stmt}
-use Rattle.c_types.specs.Forms.{do_loop, drop_expr, loop}
+use Rattle.c_types.specs.Forms.{do_loop, drop_expr, if_else, loop}
 use Rattle.c_typing.specs.Types.{is_scalar}
 use Rattle.c_typing.specs.Judgements as rules
 use Rattle.c_typing.specs.Judgements.{Fault, rule, Judgement, besides, breaks_rules, code_at, faults_in, given, means, performs, typing_at, waits}
 use Rattle.c_typing.specs.Conversions.{value_of}
 use Rattle.c_typing.specs.Rules.{bad_operand}
-use Rattle.c_typing.specs.Statements.{as_one, condition_faults, do_statement, does, empty_statement, expression_statement, statement_at, while_statement}
+use Rattle.c_typing.specs.Statements.{as_one, condition_faults, do_statement, empty_statement, expression_statement, if_statement, statement_at, while_statement}
 use Rattle.c_typing.specs.Typing.{judged_by}
 use Rattle.c_names.specs.Denoted.{places_in}
 use Rattle.c_type_ids.specs.Ids.{Known}
-use Rattle.c_answers.specs.declared.refusal.Refusal.{Refusal}
 use Rattle.c_answers.specs.declared.refusal.Refusal.TheVariants as refusal
-use Rattle.c_judgements.specs.declared.judged.Judged.{Judged}
+use Rattle.c_statement_rows.specs.Conditions.{other_at}
 use Rattle.c_meanings.specs.Meanings.{IsAnswered, judged_at, judged_to, kid_in, node_in}
 
 -- ---- a condition that is not scalar
@@ -38,7 +37,7 @@ module _ (table : List SynNode) (n : ℕ) where
   node_number = (node_in table n).id
 
   -- the row of a statement with a condition
-  abbrev conditioned : Option rules.Typing → (rules.Typing → Judgement) → Judgement
+  abbrev pub conditioned : Option rules.Typing → (rules.Typing → Judgement) → Judgement
   conditioned o f = given o (λ x. besides (condition_faults (value_of x) node_number) (f x))
 
   pub refused : (k : Known) (o : Option rules.Typing) (f : rules.Typing → Judgement) (x : rules.Typing) → node_number ≡ n → o ≡ Some x → is_scalar (value_of x).type ≡ false
@@ -106,3 +105,28 @@ module _ (table : List SynNode) (n : ℕ) where
 
   pub goes_on : (i : ℕ) (f : Stmt → Judgement) (body : List Stmt) → code_at (judged_to table n) i ≡ Some body → given (statement_at (judged_to table n) i) f ≡ f (as_one body)
   goes_on i f body there = ap (λ o. given (option_map as_one o) f) there
+
+  -- ---- `if`
+
+  pub if_is : (node_in table n).label.kind ≡ kind.If
+      → judged_at table n ≡ conditioned table n (typing_at (judged_to table n) (kid_in table n 0)) (λ x. given (statement_at (judged_to table n) (kid_in table n 1)) (λ a. given (other_at table n) (λ b. means (performs (if_else (value_of x).code a b ∷ [])))))
+  unfolding judged_at judged_by if_statement
+  if_is is = ap (judged_by (places_in table) (judged_to table n) (node_in table n)) is
+
+  pub branches_wait : (f : Stmt → Stmt → Judgement) → (is_some (code_at (judged_to table n) (kid_in table n 1)) && is_some (other_at table n)) ≡ false
+      → given (statement_at (judged_to table n) (kid_in table n 1)) (λ a. given (other_at table n) (f a)) ≡ waits
+  branches_wait f = by (code_at (judged_to table n) (kid_in table n 1)) (other_at table n)
+    where
+      by : (a : Option (List Stmt)) (b : Option Stmt) → (is_some a && is_some b) ≡ false → given (option_map as_one a) (λ x. given b (f x)) ≡ waits
+      by None b e = refl
+      by (Some x) None e = refl
+      by (Some x) (Some y) e = absurd (false≢true (sym e))
+
+  pub branches_go : (f : Stmt → Stmt → Judgement) (a : List Stmt) (b : Stmt) → code_at (judged_to table n) (kid_in table n 1) ≡ Some a → other_at table n ≡ Some b
+      → given (statement_at (judged_to table n) (kid_in table n 1)) (λ a. given (other_at table n) (f a)) ≡ f (as_one a) b
+  branches_go f a b d e = ap (λ o. given (option_map as_one o) (λ x. given (other_at table n) (f x))) d ∙ ap (λ o. given o (f (as_one a))) e
+
+pub kids_long : (ns : List ℕ) (i : ℕ) → is_some (slice_get ns i) ≡ true → suc i ≤ length ns
+kids_long [] i e = absurd (false≢true e)
+kids_long (n ∷ ns) zero e = omega arith
+kids_long (n ∷ ns) (suc i) e = let h = kids_long ns i e in omega (arith, h)

@@ -16,5 +16,5 @@
 mod loops;
 mod simple;
 
-pub use loops::{do_loop, while_loop};
+pub use loops::{conditional, do_loop, while_loop};
 pub use simple::{empty, expression};

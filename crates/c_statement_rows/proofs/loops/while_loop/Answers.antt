@@ -1,10 +1,9 @@
-use Rattle.std.proofs.Common.{◌≡◌, ◌+◌, ℕ, None, Some, ap, refl, subst, sym, ◌∙◌, arith}
-use Rattle.std.specs.Prelude.{[], ◌∷◌, IfOk, List, Err}
+use Rattle.std.proofs.Common.{◌≡◌, ◌+◌, None, Some, refl, subst, sym, ◌∙◌, arith}
+use Rattle.std.specs.Prelude.{[], ◌∷◌, IfOk, Err}
 use Rattle.c_syntax.specs.declared.kind.SynKind.TheVariants as kind
-use Rattle.c_types.specs.declared.tree.Stmt.{Stmt}
 use Rattle.c_types.specs.Forms.{loop}
 use Rattle.c_typing.specs.Conversions.{value_of}
-use Rattle.c_typing.specs.Judgements.{code_at, means, performs}
+use Rattle.c_typing.specs.Judgements.{code_at}
 use Rattle.c_typing.specs.Statements.{as_one}
 use Rattle.c_type_ids.proofs.TableLaws.{grows_same}
 use Rattle.c_answers.specs.declared.refusal.Refusal.TheVariants as refusal
