@@ -480,3 +480,13 @@ module _ (table : List SynNode) (n low : ℕ) (m : Meanings) (r : IsReady table 
   pub its_number : (node_in table n).id ≡ n
   unfolding nodes_in
   its_number = (tiled r.derived.tokens (tree_in table) r.derived.derived n (node_in table n) (node_there table n r.derived within_nodes)).numbered
+
+-- ---- what is seen of an operand
+
+pub no_operand : {X : Type 0} {o : Option rules.Typing} (P : X → rules.Typing → Type 0) (found : Option X) → MatchOption found (o ≡ None) (λ x. (y : rules.Typing) × (o ≡ Some y) × P x y) → is_some found ≡ false → o ≡ None
+no_operand P None h none = h
+no_operand P (Some x) h none = absurd (false≢true (sym none))
+
+pub operand_seen : {X : Type 0} {o : Option rules.Typing} (P : X → rules.Typing → Type 0) (found : Option X) → MatchOption found (o ≡ None) (λ x. (y : rules.Typing) × (o ≡ Some y) × P x y) → is_some found ≡ true → (y : rules.Typing) × (o ≡ Some y)
+operand_seen P None h some = absurd (false≢true some)
+operand_seen P (Some x) h some = (h.0, h.1)

@@ -82,16 +82,6 @@ module _ (table : List SynNode) (n : ℕ) where
   pub expression_code : (node_in table n).label.kind ≡ kind.ExprStmt → (x : rules.Typing) → typing_at js (kid_in table n 0) ≡ Some x → judged_at table n ≡ means (performs (drop_expr (value_of x).code ∷ []))
   expression_code is x e = expression_is is ∙ ap (λ o. given o (λ (x : rules.Typing). means (performs (drop_expr (value_of x).code ∷ [])))) e
 
--- ---- what is seen of an operand
-
-pub no_operand : {X : Type 0} {o : Option rules.Typing} (P : X → rules.Typing → Type 0) (found : Option X) → MatchOption found (o ≡ None) (λ x. (y : rules.Typing) × (o ≡ Some y) × P x y) → is_some found ≡ false → o ≡ None
-no_operand P None h none = h
-no_operand P (Some x) h none = absurd (false≢true (sym none))
-
-pub operand_seen : {X : Type 0} {o : Option rules.Typing} (P : X → rules.Typing → Type 0) (found : Option X) → MatchOption found (o ≡ None) (λ x. (y : rules.Typing) × (o ≡ Some y) × P x y) → is_some found ≡ true → (y : rules.Typing) × (o ≡ Some y)
-operand_seen P None h some = absurd (false≢true some)
-operand_seen P (Some x) h some = (h.0, h.1)
-
 -- ---- what is seen of a statement
 
 pub no_statement : (b : Bool) (o : Option (List Stmt)) → b ≡ is_some o → b ≡ false → o ≡ None

@@ -5,8 +5,8 @@ use Rattle.c_types.specs.Forms.{drop_expr}
 use Rattle.c_typing.specs.Conversions.{value_of}
 use Rattle.c_type_ids.proofs.TableLaws.{grows_same}
 use Rattle.c_meanings.specs.Meanings.{kid_in}
-use Rattle.c_meanings.proofs.MeaningLaws.{coded_row, kids_of, waiting_row}
-use Rattle.c_statement_rows.proofs.StatementLaws.{expression_code, expression_waits, no_operand, operand_seen}
+use Rattle.c_meanings.proofs.MeaningLaws.{coded_row, kids_of, no_operand, operand_seen, waiting_row}
+use Rattle.c_statement_rows.proofs.StatementLaws.{expression_code, expression_waits}
 use Rattle.c_statement_rows.proofs.simple.expression.Goals as goal
 
 pub operand_at-requires-clause-kids : goal.operand_at-requires-clause-kids
