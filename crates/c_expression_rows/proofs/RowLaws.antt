@@ -43,6 +43,14 @@ module _ (table : List SynNode) (n : ℕ) where
       by (Some x) None e = refl
       by (Some x) (Some y) e = absurd (false≢true (sym e))
 
+  pub both_there : (is_some left && is_some right) ≡ true → (x y : rules.Typing) × (left ≡ Some x) × (right ≡ Some y)
+  both_there = by left right
+    where
+      by : (a b : Option rules.Typing) → (is_some a && is_some b) ≡ true → (x y : rules.Typing) × (a ≡ Some x) × (b ≡ Some y)
+      by None b e = absurd (false≢true e)
+      by (Some x) None e = absurd (false≢true e)
+      by (Some x) (Some y) e = (x, y, refl, refl)
+
   pub waits_always : (f : rules.Typing → rules.Typing → Judgement) → ((x y : rules.Typing) → f x y ≡ waits) → with_operands (judged_to table n) (node_in table n) f ≡ waits
   waits_always f h = by left right
     where

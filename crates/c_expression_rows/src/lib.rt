@@ -8,15 +8,17 @@
 //
 // The theorem, on each row: `IsRow` of `c_meanings`, where the node is of the row's kind.
 //
-// `constants` has constants, `members` members of structs, `sizes` `sizeof`.
+// `constants` has constants, `elements` elements of arrays, `members` members of structs, `sizes` `sizeof`.
 //
 // Source: C99 6.5.
 #![tactic(auto)]
 
 mod constants;
+mod elements;
 mod members;
 mod sizes;
 
 pub use constants::{character, integer};
+pub use elements::element;
 pub use members::{arrow, dot};
 pub use sizes::{size_of_expression, size_of_type};

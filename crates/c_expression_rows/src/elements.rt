@@ -1,0 +1,42 @@
+// Elements of arrays (C99 6.5.2.1).
+ghost use Rattle.std.specs.Prelude.{◌≡◌, ◌<◌, length, is_some, ◌&&◌};
+ghost use Rattle.c_syntax.specs.declared.kind.SynKind.TheVariants as kind;
+ghost use Rattle.c_typing.specs.Judgements.{typing_at};
+ghost use Rattle.c_meanings.specs.Meanings.{HasKids, IsReady, IsRow, judged_to, kid_in, node_in};
+
+use c_answers::Refusal;
+use c_judgements::Judged;
+use c_meanings::{Meanings, expressed};
+use c_nodes::Nodes;
+use c_places::subscript;
+use std::alloc::Global;
+
+/// An element of an array.
+pub fn element(
+    alloc: Global,
+    nodes: &Nodes,
+    node: usize,
+    meanings: &mut Meanings,
+) -> Result<Judged, Refusal>
+    requires within { node < length nodes.now }
+    requires kind { (node_in nodes.now node).label.kind ≡ kind.Index }
+    requires ready { IsReady nodes.now node 0 meanings.old }
+    ensures { IsRow nodes.now node meanings.old meanings.new result }
+{
+    if !are_operands(nodes, node, meanings) {
+        return Ok(Judged::Waits);
+    }
+    let left = meanings.take_operand(nodes, node, 0);
+    let right = meanings.take_operand(nodes, node, 1);
+    expressed(subscript(alloc, &mut meanings.types, node, left, right))
+}
+
+// The first two kids are expressions with a meaning.
+fn are_operands(nodes: &Nodes, node: usize, meanings: &Meanings) -> bool
+    requires within { node < length nodes.now }
+    requires kids { HasKids nodes.now node 2 }
+    requires ready { IsReady nodes.now node 0 meanings.now }
+    ensures { result ≡ (is_some (typing_at (judged_to nodes.now node) (kid_in nodes.now node 0)) && is_some (typing_at (judged_to nodes.now node) (kid_in nodes.now node 1))) }
+{
+    meanings.operand_at(nodes, node, 0).is_some() && meanings.operand_at(nodes, node, 1).is_some()
+}
