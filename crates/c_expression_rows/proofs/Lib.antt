@@ -1,1 +1,5 @@
+pub mod ChoiceLaws
+pub mod ParenthesesLaws
+pub mod PrefixLaws
 pub mod RowLaws
+pub mod StringLaws
