@@ -1,0 +1,4 @@
+pub mod FoundLaws
+pub mod ListLaws
+pub mod RowLaws
+pub mod SpecLaws

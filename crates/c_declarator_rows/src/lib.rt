@@ -1,0 +1,24 @@
+// What the nodes of declarations mean by types: one row a kind.
+//
+// In come the table of a tree, the number of a node, what the nodes before it mean, and what its names denote. Out goes what
+// the node means, or the first rule that it breaks.
+//
+// The idea: a row finds what the kids mean, asks the function that judges such a part of a declaration by types, and hands on
+// what that answers. Where a kid has no meaning, neither has the node.
+//
+// The theorem, on each row: `IsRow` of `c_meanings`, where the node is of the row's kind.
+//
+// `words` has words among specs, `said` specs together, `types` names of types and parameters, and `answers` what rows
+// answer.
+//
+// Source: C99 6.7.
+#![tactic(auto)]
+
+mod answers;
+mod said;
+mod types;
+mod words;
+
+pub use said::specifiers;
+pub use types::{parameter, type_name};
+pub use words::word;
