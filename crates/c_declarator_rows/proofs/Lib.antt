@@ -2,3 +2,6 @@ pub mod FoundLaws
 pub mod ListLaws
 pub mod RowLaws
 pub mod SpecLaws
+pub mod MemberRowLaws
+pub mod TagRowLaws
+pub mod PartLaws

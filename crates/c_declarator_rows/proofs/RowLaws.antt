@@ -102,3 +102,6 @@ all_numbered table d = λ n within. (tiled d.tokens (tree_in table) d.derived n 
 
 pub numbered_here : (table : List SynNode) (n : ℕ) → IsDerived table → length (nodes_in table) ≡ length table → n < length table → (node_in table n).id ≡ n
 numbered_here table n d long within = all_numbered table d n (subst (λ k. n < k) (sym long) within)
+
+pub within_nodes : (table : List SynNode) (n low : ℕ) (m : Meanings) → IsReady table n low m → n < length table → n < length (nodes_in table)
+within_nodes table n low m r within = subst (λ k. n < k) (sym r.nodes) within

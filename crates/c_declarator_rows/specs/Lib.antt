@@ -1,2 +1,4 @@
 pub mod Found
 pub mod Said
+pub mod Lengths
+pub mod Tagged

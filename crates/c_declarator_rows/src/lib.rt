@@ -8,17 +8,23 @@
 //
 // The theorem, on each row: `IsRow` of `c_meanings`, where the node is of the row's kind.
 //
-// `words` has words among specs, `said` specs together, `types` names of types and parameters, and `answers` what rows
-// answer.
+// `words` has words among specs, `said` specs together, `tags` enums and structs without a body, `members` members of structs,
+// `types` names of types and parameters, `parts` parts of declarators, and `answers` what rows answer.
 //
 // Source: C99 6.7.
 #![tactic(auto)]
 
 mod answers;
+mod members;
+mod parts;
 mod said;
+mod tags;
 mod types;
 mod words;
 
+pub use members::member;
+pub use parts::{name_part, pointer_part};
 pub use said::specifiers;
+pub use tags::{enumeration, struct_reference};
 pub use types::{parameter, type_name};
 pub use words::word;
