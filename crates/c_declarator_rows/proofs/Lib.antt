@@ -5,3 +5,4 @@ pub mod SpecLaws
 pub mod MemberRowLaws
 pub mod TagRowLaws
 pub mod PartLaws
+pub mod ArrayLaws

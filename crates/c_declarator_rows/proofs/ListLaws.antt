@@ -1,6 +1,8 @@
 -- Several parts, each of which has to be there.
-use Rattle.std.proofs.Common.{◌≡◌, ℕ, zero, suc, ◌+◌, ◌<◌, List, [], ◌∷◌, ◌++◌, length, Option, Some, None, refl, sym, ap, ◌∙◌, arith, get_or, append_assoc, append-nil, take}
+use Rattle.std.proofs.Common.{◌≡◌, ℕ, zero, suc, ◌+◌, ◌<◌, ◌≤◌, true, List, [], ◌∷◌, ◌++◌, length, Option, Some, None, refl, sym, ap, ◌∙◌, arith, get_or, append_assoc, append-nil, take}
 use Rattle.std.specs.Prelude.{flat_map, map, slice_get}
+use Rattle.std.specs.Option.{is_some}
+use Rattle.std.proofs.lemmas.Bool.{false≢true}
 use Rattle.c_syntax.specs.declared.syntax.SynId.{SynId}
 use Rattle.c_typing.specs.Places.{numbers}
 use Rattle.c_typing.specs.Judgements.{all_of, before}
@@ -48,3 +50,9 @@ kid_asked f (kid ∷ kids) (suc i) d within = kid_asked f kids i d (omega (arith
 pub flat_more : {A : Type 0} (xss : List (List A)) (xs : List A) → flat_map (λ ys. ys) (xss ++ xs ∷ []) ≡ flat_map (λ ys. ys) xss ++ xs
 flat_more [] xs = append-nil xs
 flat_more (ys ∷ xss) xs = ap (λ zs. ys ++ zs) (flat_more xss xs) ∙ sym (append_assoc ys (flat_map (λ ys. ys) xss) xs)
+
+-- a kid of this index is there
+pub kids_long : (ns : List ℕ) (i : ℕ) → is_some (slice_get ns i) ≡ true → suc i ≤ length ns
+kids_long [] i e = absurd (false≢true e)
+kids_long (n ∷ ns) zero e = omega arith
+kids_long (n ∷ ns) (suc i) e = let h = kids_long ns i e in omega (arith, h)

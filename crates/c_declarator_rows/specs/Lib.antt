@@ -2,3 +2,4 @@ pub mod Found
 pub mod Said
 pub mod Lengths
 pub mod Tagged
+pub mod Arrays

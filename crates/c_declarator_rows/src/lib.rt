@@ -15,6 +15,7 @@
 #![tactic(auto)]
 
 mod answers;
+mod arrays;
 mod members;
 mod parts;
 mod said;
@@ -22,6 +23,7 @@ mod tags;
 mod types;
 mod words;
 
+pub use arrays::array_part;
 pub use members::member;
 pub use parts::{name_part, pointer_part};
 pub use said::specifiers;
