@@ -6,3 +6,4 @@ pub mod MemberRowLaws
 pub mod TagRowLaws
 pub mod PartLaws
 pub mod ArrayLaws
+pub mod FunctionRowLaws

@@ -3,3 +3,4 @@ pub mod Said
 pub mod Lengths
 pub mod Tagged
 pub mod Arrays
+pub mod Parameters

@@ -9,13 +9,15 @@
 // The theorem, on each row: `IsRow` of `c_meanings`, where the node is of the row's kind.
 //
 // `words` has words among specs, `said` specs together, `tags` enums and structs without a body, `members` members of structs,
-// `types` names of types and parameters, `parts` parts of declarators, and `answers` what rows answer.
+// `types` names of types and parameters, `parts` names and pointers as parts of declarators, `arrays` arrays and `functions`
+// functions as such parts, and `answers` what rows answer.
 //
 // Source: C99 6.7.
 #![tactic(auto)]
 
 mod answers;
 mod arrays;
+mod functions;
 mod members;
 mod parts;
 mod said;
@@ -24,6 +26,7 @@ mod types;
 mod words;
 
 pub use arrays::array_part;
+pub use functions::function_part;
 pub use members::member;
 pub use parts::{name_part, pointer_part};
 pub use said::specifiers;
