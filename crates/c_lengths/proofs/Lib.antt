@@ -1,0 +1,5 @@
+pub mod Steps
+pub mod Parts
+pub mod Specs
+pub mod Typedefs
+pub mod Owners
