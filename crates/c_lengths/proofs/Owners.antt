@@ -1,5 +1,5 @@
 -- A declarator of a parameter or a member has no initializer.
-use Rattle.std.proofs.Common.{◌≡◌, ◌⊎◌, inl, inr, ℕ, zero, suc, ◌<◌, ◌≤◌, Bool, true, false, not, ◌&&◌, List, [], ◌∷◌, Option, Some, None, length, map, refl, sym, ap, ◌∙◌, subst, arith, true≢false}
+use Rattle.std.proofs.Common.{◌≡◌, ◌⊎◌, inl, inr, ℕ, zero, suc, ◌<◌, ◌≤◌, Bool, true, false, ◌&&◌, List, [], ◌∷◌, Option, Some, None, length, map, refl, sym, ap, ◌∙◌, subst, arith, true≢false}
 use Rattle.std.specs.Prelude.{slice_get, unwrap_or, filter, ◌==◌, if◌then◌else◌}
 use Rattle.std.specs.List.{last_or}
 use Rattle.std.proofs.lemmas.Bool.Decides.{Decides-eqb}
@@ -8,15 +8,13 @@ use Rattle.c_syntax.specs.declared.kind.SynKind.{SynKind}
 use Rattle.c_syntax.specs.declared.kind.SynKind.TheVariants as kind
 use Rattle.c_syntax.specs.Trees.{Tree}
 use Rattle.c_grammar.specs.Derivation.{IsTreeOf}
-use Rattle.c_typing.specs.Places.{Node, nodes, node_at, nowhere, kind_at, has_kid, is_declarator, is_init, in_declarator, whole_declarator}
-use Rattle.c_typing.specs.Names.{Places, places}
+use Rattle.c_typing.specs.Places.{Node, nodes, node_at, nowhere, is_declarator, is_init, in_declarator, whole_declarator}
 use Rattle.c_typing.specs.Shapes as category
 use Rattle.c_typing.specs.Shapes.{Category, begins_with, category_by, is_absent_name, stands_in}
 use Rattle.c_typing.specs.ShapesOfNodes.{category_at}
 use Rattle.c_typing.proofs.ProgressForms.{is_part, split}
 use Rattle.c_typing.proofs.ProgressAll.{found_at}
-use Rattle.c_typing.proofs.ProgressPlaces.{Linked, AreLinked, are_linked, stands, some_same}
-use Rattle.c_typing.proofs.ProgressOwners.{is_owner}
+use Rattle.c_typing.proofs.ProgressPlaces.{Linked, AreLinked, stands, some_same}
 use Rattle.c_typing.proofs.ShapesNodes.{node_placed}
 use Rattle.c_typing.proofs.MadeNodes.{In, in_at, nested, node_bounds, crossed, kid_within}
 use Rattle.c_typing.proofs.MadePlaced.{numbered, found, kid_found}

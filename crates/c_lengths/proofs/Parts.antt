@@ -4,15 +4,15 @@ use Rattle.std.proofs.Common.{◌≡◌, ℕ, suc, Bool, true, false, not, ◌&&
 use Rattle.std.specs.Prelude.{if◌then◌else◌, filter_map, codes, slice_get}
 use Rattle.c_syntax.specs.declared.kind.SynKind.{SynKind}
 use Rattle.c_syntax.specs.declared.kind.SynKind.TheVariants as kind
-use Rattle.c_typing.specs.Types.{CType, types_of, Layout}
+use Rattle.c_typing.specs.Types.{CType, types_of}
 use Rattle.c_typing.specs.Places.{Node, kid, has_kid, other_kids, parent_of, specs_of, is_whole, is_declarator, is_init, is_next_to_name, node_at, whole_declarator, says}
-use Rattle.c_typing.specs.Names.{Places, name_of}
+use Rattle.c_typing.specs.Names.{Places}
 use Rattle.c_typing.specs.Judgements.{Fault, Typing, Meaning, declares, steps, expresses, PlacedStep, Step, to_pointer, of_array, of_unsized, of_function, Judgement, means, breaks_rules, waits, verdict, given, besides, all_of, before, typing_at, type_at, type_of, steps_at, layouts}
 use Rattle.c_typing.specs.Rules.{many_parameters, bad_parameter, absent_length}
-use Rattle.c_typing.specs.Declarators.{word_in, Built, built, whole_by, whole_type, declarator, build, with_step, adjusted, pointer_declarator, is_parameter_length, is_given_by_initializer, absent_length_step, length_faults, length_step, array_declarator, function_declarator}
+use Rattle.c_typing.specs.Declarators.{word_in, built, whole_type, declarator, build, with_step, pointer_declarator, is_parameter_length, is_given_by_initializer, absent_length_step, length_faults, length_step, array_declarator, function_declarator}
 use Rattle.c_typing.specs.Typing.{judged_by, in_parentheses}
 use Rattle.c_typing.proofs.ProgressBuilt.{is_leaf}
-use Rattle.c_lengths.specs.Lengths.{lacks_length, one_lacks}
+use Rattle.c_lengths.specs.Lengths.{lacks_length}
 use Rattle.c_lengths.proofs.Steps.{InTypes, adjusted_fine, all_fine, at_first, behind, build_fine, more_steps, step_lacks, steps_lack}
 
 -- the declarator of this name has an initializer that may give a length
