@@ -1,0 +1,105 @@
+-- What declarations of members mean.
+use Rattle.std.proofs.Common.{◌≡◌, ◌≢◌, ℕ, zero, suc, ◌<◌, false, List, [], ◌∷◌, ◌++◌, length, Option, Some, None, refl, sym, ap, ◌∙◌, subst, arith, get_or, drop}
+use Rattle.std.specs.Prelude.{IfOk, IfSome, Result, Ok, Err, Bool, map, option_map, slice_get, unwrap_or, ◌||◌, ◌&&◌}
+use Rattle.std.specs.List.{AllByRecursion}
+use Rattle.std.proofs.lemmas.Bool.{false≢true}
+use Rattle.c_syntax.specs.declared.syntax.SynId.{SynId}
+use Rattle.c_syntax.specs.declared.syntax.SynNode.{SynNode}
+use Rattle.c_syntax.specs.declared.kind.SynKind.{SynKind}
+use Rattle.c_syntax.specs.declared.kind.SynKind.TheVariants as kind
+use Rattle.c_types.specs.declared.kind.TypeId.{TypeId}
+use Rattle.c_typing.specs.Types.{CType, Field, pointer, unsized}
+use Rattle.c_typing.specs.Places.{is_init, node_at, numbers, other_kids, text_at}
+use Rattle.c_typing.specs.Names.{is_declaration}
+use Rattle.c_typing.specs.Judgements.{Judgement, all_of, given, layout_in, means, members, type_at}
+use Rattle.c_typing.specs.Declarators.{member, member_at}
+use Rattle.c_typing.specs.Typing.{judged_by}
+use Rattle.c_nodes.specs.Parents.{nodes_in}
+use Rattle.c_names.specs.Denoted.{IsDerived, places_in}
+use Rattle.c_type_ids.specs.Ids.{AreMembers, Known, Names}
+use Rattle.c_values.specs.declared.typings.«Type».{«Type» as TypeForm}
+use Rattle.c_values.specs.declared.typings.«Type».TheVariants as type
+use Rattle.c_judgements.specs.declared.judged.Judged.TheVariants as judged
+use Rattle.c_meanings.specs.Meanings.{HasKids, IsAnswered, judged_at, judged_to, kid_in, node_in}
+use Rattle.c_meanings.proofs.KidLaws.{kid_is}
+use Rattle.c_declarator_rows.specs.Found.{Finds}
+use Rattle.c_declarator_rows.specs.Lengths.{FindsAll, FindsId, HasLengthAt, HaveLengths, as_members, known_id, lacks_length}
+use Rattle.c_declarator_rows.proofs.SpecLaws.{given_layout}
+
+-- ---- types with their lengths
+
+pub id_found : (k : Known) (kind : TypeForm) (o : Option CType) → IfSome o (λ t. lacks_length t ≡ false) → Finds k (Some kind) o → FindsId k (known_id kind) o
+id_found k (type.Known id) o has h = h
+id_found k (type.Unsized id) o has (unsized t, e, is) = absurd (false≢true (sym (subst (λ p. IfSome p (λ t. lacks_length t ≡ false)) e has)))
+id_found k (type.Unsized id) o has (t, e, is) = absurd is
+id_found k (type.ToUnsized id) o has (pointer (unsized t), e, is) = absurd (false≢true (sym (subst (λ p. IfSome p (λ t. lacks_length t ≡ false)) e has)))
+id_found k (type.ToUnsized id) o has (pointer t, e, is) = absurd is
+id_found k (type.ToUnsized id) o has (t, e, is) = absurd is
+
+pub not_found : (k : Known) (found : Option TypeForm) (o : Option CType) → ((kind : TypeForm) → found ≢ Some kind) → Finds k found o → o ≡ None
+not_found k None o none h = h
+not_found k (Some kind) o none h = absurd (none kind refl)
+
+-- ---- the kids of a node but for the first
+
+pub kid_all : (P : ℕ → Type 0) (kids : List SynId) (i : ℕ) (d : SynId) → i < length kids → AllByRecursion P (numbers kids) → P (get_or kids i d).number
+kid_all P [] i d within h = absurd (omega (arith, within))
+kid_all P (k ∷ kids) zero d within h = h.0
+kid_all P (k ∷ kids) (suc i) d within h = kid_all P kids i d (omega (arith, within)) h.1
+
+by_index : (P : ℕ → Type 0) (ns : List ℕ) → ((i : ℕ) → i < length ns → P (unwrap_or (slice_get ns i) 0)) → AllByRecursion P ns
+by_index P [] h = tt
+by_index P (n ∷ ns) h = (h 0 (omega arith), by_index P ns (λ i within. h (suc i) (omega (arith, within))))
+
+behind_first : (P : ℕ → Type 0) (ns : List ℕ) → AllByRecursion P ns → AllByRecursion P (drop 1 ns)
+behind_first P [] h = tt
+behind_first P (n ∷ ns) h = h.1
+
+pub all_others : (P : ℕ → Type 0) (table : List SynNode) (n : ℕ) → ((i : ℕ) → HasKids table n (suc i) → P (kid_in table n i)) → AllByRecursion P (other_kids (node_in table n))
+all_others P table n h = behind_first P (node_in table n).kids (by_index P (node_in table n).kids (λ i within. h i (omega (arith, within))))
+
+-- by its parent a kid is no declarator of a declaration
+pub none_lacks : (table : List SynNode) (n i : ℕ) → IsDerived table → n < length (nodes_in table) → is_init (node_in table n).label.kind ≡ false → is_declaration (node_in table n).label.kind ≡ false
+    → HaveLengths table n → HasKids table n (suc i) → HasLengthAt (judged_to table n) (kid_in table n i)
+none_lacks table n i d within init declaration have has =
+    let k = kid_is table n d within i has in
+    have (kid_in table n i) k.less (ap (λ o. lacks o (node_in table (kid_in table n i)).label.kind) (ap (λ p. (node_in table p).label.kind) k.parent) ∙ by (node_in table n).label.kind (node_in table (kid_in table n i)).label.kind init declaration)
+  where
+    lacks : SynKind → SynKind → Bool
+    lacks owner own = is_init owner || (is_declaration owner && is_init own)
+
+    by : (owner own : SynKind) → is_init owner ≡ false → is_declaration owner ≡ false → lacks owner own ≡ false
+    by owner own a b = ap (λ x. x || (is_declaration owner && is_init own)) a ∙ ap (λ x. x && is_init own) b
+
+-- ---- members
+
+pub members_more : (k : Known) (ms : List (List ℕ × TypeId)) (fs : List Field) (m : List ℕ × TypeId) (f : Field) → AreMembers k ms fs → m.0 ≡ f.name → Names k m.1 f.type → AreMembers k (ms ++ m ∷ []) (fs ++ f ∷ [])
+members_more k [] [] m f h name named = (name, named, tt)
+members_more k (a ∷ ms) (b ∷ fs) m f h name named = (h.0, h.1, members_more k ms fs m f h.2 name named)
+members_more k [] (b ∷ fs) m f h name named = absurd h
+members_more k (a ∷ ms) [] m f h name named = absurd h
+
+pub members_answered : {E : Type 0} (k : Known) (found : Result (Option (List (List ℕ × TypeId))) E) (o : Option (List Field)) → IfOk found (λ f. FindsAll k f o) → IsAnswered k (as_members found) (given o (λ fields. means (members fields)))
+members_answered k (Ok None) o none = subst (λ p. IsAnswered k (Ok judged.Waits) (given p (λ fields. means (members fields)))) (sym none) (refl, tt, refl)
+members_answered k (Ok (Some ms)) o (fields, e, are) = subst (λ p. IsAnswered k (Ok (judged.Members ms)) (given p (λ fields. means (members fields)))) (sym e) (refl, are, refl)
+members_answered k (Err e) o h = tt
+
+module _ (table : List SynNode) (n : ℕ) where
+  abbrev pub its_members : Option (List Field)
+  its_members = all_of (map (member_at (places_in table) (judged_to table n)) (other_kids (node_in table n)))
+
+  pub member_is : (node_in table n).label.kind ≡ kind.Member → judged_at table n ≡ given its_members (λ fields. means (members fields))
+  unfolding judged_at judged_by member
+  member_is is = ap (judged_by (places_in table) (judged_to table n) (node_in table n)) is
+
+  pub member_layout : layout_in (given its_members (λ fields. means (members fields))) ≡ None
+  member_layout = given_layout its_members (λ fields. means (members fields)) (λ fields. refl)
+
+-- the member of a declarator with a type
+pub field_at : (table : List SynNode) (js : List Judgement) (d : ℕ) (t : CType) → type_at js d ≡ Some t → member_at (places_in table) js d ≡ Some (record { name = text_at (nodes_in table) (node_at (nodes_in table) d).first; type = t; offset = 0 })
+unfolding places_in nodes_in
+field_at table js d t e = ap (option_map (λ t. record { name = text_at (nodes_in table) (node_at (nodes_in table) d).first; type = t; offset = 0 })) e
+
+pub no_field : (table : List SynNode) (js : List Judgement) (d : ℕ) → type_at js d ≡ None → member_at (places_in table) js d ≡ None
+unfolding places_in nodes_in
+no_field table js d e = ap (option_map (λ t. record { name = text_at (nodes_in table) (node_at (nodes_in table) d).first; type = t; offset = 0 })) e

@@ -1,0 +1,7 @@
+pub mod Found
+pub mod Said
+pub mod Lengths
+pub mod Tagged
+pub mod Arrays
+pub mod Parameters
+pub mod Enumerators
