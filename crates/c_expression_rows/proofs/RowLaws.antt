@@ -1,6 +1,6 @@
 -- What expressions mean by their kinds and by what their operands mean.
-use Rattle.std.proofs.Common.{◌≡◌, ◌≢◌, ℕ, true, false, List, Option, Some, None, refl, sym, ap, ◌∙◌, subst}
-use Rattle.std.specs.Prelude.{Result, MatchOption, is_some, ◌&&◌}
+use Rattle.std.proofs.Common.{◌≡◌, ◌≢◌, ℕ, true, false, List, Option, Some, None, refl, sym, ap, ◌∙◌}
+use Rattle.std.specs.Prelude.{MatchOption, is_some, ◌&&◌}
 use Rattle.std.proofs.lemmas.Bool.{false≢true}
 use Rattle.c_syntax.specs.declared.kind.SynKind.TheVariants as kind
 use Rattle.c_syntax.specs.declared.syntax.SynNode.{SynNode}
@@ -9,15 +9,12 @@ use Rattle.c_typing.specs.Judgements.{Judgement, given, means, type_at, typing_a
 use Rattle.c_lexer.specs.declared.token.IntType.{IntType}
 use Rattle.c_typing.specs.Types.{CType, int}
 use Rattle.c_typing.specs.Conversions.{Operator, operator_of, value_of}
-use Rattle.c_typing.specs.Expressions.{arrow, binary_by, binary_operator, comma, dot, expression, integer_type, measured_type, number_of_type, subscript}
+use Rattle.c_typing.specs.Expressions.{arrow, binary_by, binary_operator, cast, comma, dot, expression, integer_type, measured_type, number_of_type, subscript}
 use Rattle.c_typing.specs.Typing.{cast_node, judged_by, with_operand, with_operands}
 use Rattle.c_names.specs.Denoted.{places_in}
-use Rattle.c_type_ids.specs.Ids.{Known}
-use Rattle.c_values.specs.declared.typings.Typing.{Typing}
-use Rattle.c_answers.specs.declared.refusal.Refusal.{Refusal}
-use Rattle.c_answers.specs.Answers.{Answers, Expresses}
-use Rattle.c_meanings.specs.Meanings.{IsAnswered, as_expression, judged_at, judged_to, kid_in, node_in}
-use Rattle.c_meanings.proofs.MeaningLaws.{expression_answered}
+use Rattle.c_values.specs.declared.operators.Operator.{Operator as Told}
+use Rattle.c_values.specs.Operators.{IsOperator, Same}
+use Rattle.c_meanings.specs.Meanings.{judged_at, judged_to, kid_in, node_in}
 
 -- ---- with the meanings of kids
 
@@ -51,6 +48,12 @@ module _ (table : List SynNode) (n : ℕ) where
       by (Some x) None e = absurd (false≢true e)
       by (Some x) (Some y) e = (x, y, refl, refl)
 
+  pub left_there : (is_some left && is_some right) ≡ true → is_some left ≡ true
+  left_there e = let (x, y, a, b) = both_there e in ap is_some a
+
+  pub right_there : (is_some left && is_some right) ≡ true → is_some right ≡ true
+  right_there e = let (x, y, a, b) = both_there e in ap is_some b
+
   pub waits_always : (f : rules.Typing → rules.Typing → Judgement) → ((x y : rules.Typing) → f x y ≡ waits) → with_operands (judged_to table n) (node_in table n) f ≡ waits
   waits_always f h = by left right
     where
@@ -70,12 +73,9 @@ module _ (table : List SynNode) (n : ℕ) where
     unfolding binary_operator
     binary_without none = binary_is ∙ waits_always _ (λ x y. ap (λ o. given o (binary_by (judged_to table n) (node_in table n) (value_of x) (value_of y))) none)
 
-    pub binary_answers : (k : Known) (found : Result Typing Refusal) (x y : rules.Typing) (o : Operator) → left ≡ Some x → right ≡ Some y → operator_of (node_in table n).label.text ≡ Some o
-        → Answers (Expresses k 0) found (binary_by (judged_to table n) (node_in table n) (value_of x) (value_of y) o) → IsAnswered k (as_expression found) (judged_at table n)
+    pub binary_with : (x y : rules.Typing) (o : Operator) → left ≡ Some x → right ≡ Some y → operator_of (node_in table n).label.text ≡ Some o → judged_at table n ≡ binary_by (judged_to table n) (node_in table n) (value_of x) (value_of y) o
     unfolding binary_operator
-    binary_answers k found x y o a b at answers =
-        let same = binary_is ∙ with_two _ x y a b ∙ ap (λ p. given p (binary_by (judged_to table n) (node_in table n) (value_of x) (value_of y))) at in
-        subst (IsAnswered k (as_expression found)) (sym same) (expression_answered k 0 found _ answers)
+    binary_with x y o a b at = binary_is ∙ with_two _ x y a b ∙ ap (λ p. given p (binary_by (judged_to table n) (node_in table n) (value_of x) (value_of y))) at
 
   -- ---- with one operand
 
@@ -88,10 +88,6 @@ module _ (table : List SynNode) (n : ℕ) where
       by : (a : Option rules.Typing) → is_some a ≡ false → given a f ≡ waits
       by None e = refl
       by (Some x) e = absurd (false≢true (sym e))
-
-  -- an expression that is this judgement
-  pub answers_as : (j : Judgement) → judged_at table n ≡ j → (k : Known) (found : Result Typing Refusal) → Answers (Expresses k 0) found j → IsAnswered k (as_expression found) (judged_at table n)
-  answers_as j same k found answers = subst (IsAnswered k (as_expression found)) (sym same) (expression_answered k 0 found j answers)
 
   pub comma_is : (node_in table n).label.kind ≡ kind.Comma → judged_at table n ≡ with_operands (judged_to table n) (node_in table n) (λ x y. comma (value_of x) (value_of y))
   unfolding judged_at judged_by
@@ -112,6 +108,15 @@ module _ (table : List SynNode) (n : ℕ) where
   pub cast_is : (node_in table n).label.kind ≡ kind.Cast → judged_at table n ≡ cast_node (judged_to table n) (node_in table n)
   unfolding judged_at judged_by
   cast_is is = ap (judged_by (places_in table) (judged_to table n) (node_in table n)) is
+
+  pub cast_without_type : (node_in table n).label.kind ≡ kind.Cast → type_at (judged_to table n) (kid_in table n 0) ≡ None → judged_at table n ≡ waits
+  cast_without_type is none = cast_is is ∙ ap (λ (o : Option CType). given o (λ t. given right (λ x. cast (node_in table n) t (value_of x)))) none
+
+  pub cast_without_value : (node_in table n).label.kind ≡ kind.Cast → (t : CType) → type_at (judged_to table n) (kid_in table n 0) ≡ Some t → right ≡ None → judged_at table n ≡ waits
+  cast_without_value is t e none = cast_is is ∙ ap (λ (o : Option CType). given o (λ t. given right (λ x. cast (node_in table n) t (value_of x)))) e ∙ ap (λ o. given o (λ x. cast (node_in table n) t (value_of x))) none
+
+  pub cast_with : (node_in table n).label.kind ≡ kind.Cast → (t : CType) (x : rules.Typing) → type_at (judged_to table n) (kid_in table n 0) ≡ Some t → right ≡ Some x → judged_at table n ≡ cast (node_in table n) t (value_of x)
+  cast_with is t x e f = cast_is is ∙ ap (λ (o : Option CType). given o (λ t. given right (λ x. cast (node_in table n) t (value_of x)))) e ∙ ap (λ o. given o (λ x. cast (node_in table n) t (value_of x))) f
 
   pub size_expression_is : (node_in table n).label.kind ≡ kind.SizeExpr → judged_at table n ≡ with_operand (judged_to table n) (node_in table n) (λ x. measured_type (judged_to table n) x.type (kid_in table n 0))
   unfolding judged_at judged_by
@@ -136,3 +141,14 @@ no_some P (Some x) h other = absurd (other x refl)
 pub no_typing : {X : Type 0} {o : Option rules.Typing} (P : X → rules.Typing → Type 0) (found : Option X) → MatchOption found (o ≡ None) (λ x. (y : rules.Typing) × (o ≡ Some y) × P x y) → ((x : X) → found ≢ Some x) → o ≡ None
 no_typing P None h other = h
 no_typing P (Some x) h other = absurd (other x refl)
+
+-- ---- what is seen of the text of an operator
+
+pub no_operator : (found : Option Told) (o : Option Operator) → IsOperator found o → ((x : Told) → found ≢ Some x) → o ≡ None
+no_operator None None h other = refl
+no_operator None (Some p) h other = absurd h
+no_operator (Some x) o h other = absurd (other x refl)
+
+pub operator_there : (x : Told) (o : Option Operator) → IsOperator (Some x) o → (p : Operator) × (o ≡ Some p) × Same x p
+operator_there x (Some p) h = (p, refl, h)
+operator_there x None h = absurd h

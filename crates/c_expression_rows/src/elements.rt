@@ -1,9 +1,9 @@
 // Elements of arrays (C99 6.5.2.1).
-ghost use Rattle.std.specs.Prelude.{◌≡◌, ◌<◌, length, is_some, ◌&&◌};
+ghost use Rattle.std.specs.Prelude.{◌≡◌, ◌<◌, length};
 ghost use Rattle.c_syntax.specs.declared.kind.SynKind.TheVariants as kind;
-ghost use Rattle.c_typing.specs.Judgements.{typing_at};
-ghost use Rattle.c_meanings.specs.Meanings.{HasKids, IsReady, IsRow, judged_to, kid_in, node_in};
+ghost use Rattle.c_meanings.specs.Meanings.{IsReady, IsRow, node_in};
 
+use crate::operands::are_operands;
 use c_answers::Refusal;
 use c_judgements::Judged;
 use c_meanings::{Meanings, expressed};
@@ -29,14 +29,4 @@ pub fn element(
     let left = meanings.take_operand(nodes, node, 0);
     let right = meanings.take_operand(nodes, node, 1);
     expressed(subscript(alloc, &mut meanings.types, node, left, right))
-}
-
-// The first two kids are expressions with a meaning.
-fn are_operands(nodes: &Nodes, node: usize, meanings: &Meanings) -> bool
-    requires within { node < length nodes.now }
-    requires kids { HasKids nodes.now node 2 }
-    requires ready { IsReady nodes.now node 0 meanings.now }
-    ensures { result ≡ (is_some (typing_at (judged_to nodes.now node) (kid_in nodes.now node 0)) && is_some (typing_at (judged_to nodes.now node) (kid_in nodes.now node 1))) }
-{
-    meanings.operand_at(nodes, node, 0).is_some() && meanings.operand_at(nodes, node, 1).is_some()
 }
