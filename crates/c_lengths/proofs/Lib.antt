@@ -4,3 +4,4 @@ pub mod Specs
 pub mod Typedefs
 pub mod Owners
 pub mod Lengths
+pub mod Prefixes
