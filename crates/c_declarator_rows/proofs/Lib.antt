@@ -9,3 +9,5 @@ pub mod ArrayLaws
 pub mod FunctionRowLaws
 pub mod AgainLaws
 pub mod EnumeratorLaws
+mod KidLengths
+mod RoomLaws

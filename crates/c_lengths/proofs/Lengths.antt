@@ -21,7 +21,7 @@ use Rattle.c_typing.specs.Initializers.{bare_code, completed, given_count, init_
 use Rattle.c_typing.specs.Rules.{bad_initializer}
 use Rattle.c_typing.specs.Typing.{judged_by, judgements_at}
 use Rattle.c_typing.specs.Shapes as category
-use Rattle.c_typing.specs.Shapes.{Category, no_category, at_most_one, category_by, in_parentheses, is_initializer, is_parameter, kids_fit}
+use Rattle.c_typing.specs.Shapes.{Category, no_category, at_most_one, category_by, in_parentheses, is_declarator as is_named_declarator, is_initializer, is_parameter, kids_fit}
 use Rattle.c_typing.specs.ShapesOfNodes.{category_at}
 use Rattle.c_typing.proofs.ProgressBase.{judged_at, earlier_at}
 use Rattle.c_typing.proofs.ProgressForms.{is_part, is_specifier}
@@ -379,3 +379,34 @@ module _ (tokens : List Token) (t : Tree) (derived : IsTreeOf tokens t) where
   -- the declarators of parameters and members
   pub owned : (n : ℕ) (m : Node) → slice_get (nodes t) n ≡ Some m → has_none m.label.kind ≡ true → (i k : ℕ) → slice_get m.kids i ≡ Some k → is_part (category_at t k) ≡ true → (u : CType) → type_of (judgement_at js k) ≡ Some u → lacks_length u ≡ false
   owned n m e none i k at is u typed = owned_fine n (λ k less. all_good k) m e i k at is none u typed
+
+  others : (test : Category → Bool) (ks : List ℕ) (i k : ℕ) → slice_get (drop 1 ks) i ≡ Some k → list_all test (rest (map (category_at t) ks)) ≡ true → (slice_get ks (suc i) ≡ Some k) × (test (category_at t k) ≡ true)
+  others test [] i k at fit = absurd (gone at)
+  others test (j ∷ ks) i k at fit = (at, at_all (category_at t) test ks i k fit at)
+
+  -- the types of the parameters of a function
+  pub parameters_fine : (n : ℕ) (m : Node) → slice_get (nodes t) n ≡ Some m → m.label.kind ≡ kind.Takes → (i k : ℕ) → slice_get (other_kids m) i ≡ Some k → (u : CType) → type_of (judgement_at js k) ≡ Some u → lacks_length u ≡ false
+  parameters_fine n m e same i k at u typed =
+      let shape = l.shapes.shaped n m e in
+      let fit = (of.of_takes m.label.text (map (category_at t) m.kids) (ap (λ k. kids_fit k m.label.text (map (category_at t) m.kids)) (sym same) ∙ shape.kids)).1 in
+      let found = others is_parameter m.kids i k at fit in
+      let q = kid_of (nodes t) m.first n m.kids (suc i) k (l.shapes.tiled n m e).kids found.0 in
+      let kid_shape = l.shapes.shaped k q.node q.at in
+      let is = parameter_kind q.node.label.kind q.node.label.text (map (category_at t) q.node.kids) (ap is_parameter (sym kid_shape.category) ∙ found.1) in
+      (all_good k q.node q.at).parameter is u typed
+
+  declarator_part : (c : Category) → is_named_declarator c ≡ true → is_part c ≡ true
+  declarator_part category.declarator e = refl
+  declarator_part _ e = no e
+
+  -- the types of the members of a declaration
+  pub members_fine : (n : ℕ) (m : Node) → slice_get (nodes t) n ≡ Some m → m.label.kind ≡ kind.Member → (i k : ℕ) → slice_get (other_kids m) i ≡ Some k → (u : CType) → type_of (judgement_at js k) ≡ Some u → lacks_length u ≡ false
+  members_fine n m e same i k at u typed =
+      let shape = l.shapes.shaped n m e in
+      let fit = of.of_member m.label.text (map (category_at t) m.kids) (ap (λ k. kids_fit k m.label.text (map (category_at t) m.kids)) (sym same) ∙ shape.kids) in
+      let found = others is_named_declarator m.kids i k at fit in
+      owned n m e (ap has_none same) (suc i) k found.0 (declarator_part (category_at t k) found.1) u typed
+
+  -- the type of specs
+  pub specs_fine : (n : ℕ) (m : Node) → slice_get (nodes t) n ≡ Some m → m.label.kind ≡ kind.Specs → (u : CType) → type_of (judgement_at js n) ≡ Some u → lacks_length u ≡ false
+  specs_fine n m e same u typed = (all_good n m e).says (ap says_type same) u typed
