@@ -29,15 +29,15 @@ use Rattle.c_declarator_rows.specs.Found.{Finds, IsName, as_declared, as_type, n
 -- ---- what a use denotes
 
 module _ (table : List SynNode) (d : IsDerived table) where
-  name_is : (e : Name) → Among e (places_in table).names → name_of (places_in table) e.node ≡ Some e
+  pub name_is : (e : Name) → Among e (places_in table).names → name_of (places_in table) e.node ≡ Some e
   unfolding places_in
   name_is e i = declared.name_at d.tokens (tree_in table) d.derived e i
 
-  node_within : (e : Name) → Among e (places_in table).names → length (nodes_in table) ≡ length table → e.node < length table
+  pub node_within : (e : Name) → Among e (places_in table).names → length (nodes_in table) ≡ length table → e.node < length table
   unfolding places_in nodes_in
   node_within e i long = subst (λ n. e.node < n) long (declared.name_below d.tokens (tree_in table) d.derived e i)
 
-  named : (e : Name) (o : Option DeclaredName) → Some e ≡ option_map (rule_name (nodes_in table) e.node) o → IsName table (Some e) o
+  pub named : (e : Name) (o : Option DeclaredName) → Some e ≡ option_map (rule_name (nodes_in table) e.node) o → IsName table (Some e) o
   named e None h = absurd (cc h)
   named e (Some x) h = let same : e ≡ rule_name (nodes_in table) e.node x = cc h in sym same
 

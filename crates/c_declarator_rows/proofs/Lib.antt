@@ -7,3 +7,7 @@ pub mod TagRowLaws
 pub mod PartLaws
 pub mod ArrayLaws
 pub mod FunctionRowLaws
+pub mod AgainLaws
+pub mod EnumeratorLaws
+mod KidLengths
+mod RoomLaws

@@ -47,7 +47,7 @@ kid_all P [] i d within h = absurd (omega (arith, within))
 kid_all P (k ∷ kids) zero d within h = h.0
 kid_all P (k ∷ kids) (suc i) d within h = kid_all P kids i d (omega (arith, within)) h.1
 
-by_index : (P : ℕ → Type 0) (ns : List ℕ) → ((i : ℕ) → i < length ns → P (unwrap_or (slice_get ns i) 0)) → AllByRecursion P ns
+pub by_index : (P : ℕ → Type 0) (ns : List ℕ) → ((i : ℕ) → i < length ns → P (unwrap_or (slice_get ns i) 0)) → AllByRecursion P ns
 by_index P [] h = tt
 by_index P (n ∷ ns) h = (h 0 (omega arith), by_index P ns (λ i within. h (suc i) (omega (arith, within))))
 

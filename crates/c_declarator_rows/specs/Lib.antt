@@ -4,3 +4,4 @@ pub mod Lengths
 pub mod Tagged
 pub mod Arrays
 pub mod Parameters
+pub mod Enumerators

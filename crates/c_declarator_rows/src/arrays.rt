@@ -184,7 +184,7 @@ fn counted(
     }
 }
 
-fn operand_of(typing: &Typing) -> Operand
+pub(crate) fn operand_of(typing: &Typing) -> Operand
     ensures { result ≡ record { kind = typing.now.kind; constant = typing.now.constant } }
 {
     Operand {

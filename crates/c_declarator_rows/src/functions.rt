@@ -13,7 +13,7 @@ ghost use Rattle.c_type_ids.specs.Ids.{NamesAll};
 ghost use Rattle.c_answers.specs.Answers.{Allows};
 ghost use Rattle.c_judgements.specs.Judged.{AreJudged};
 ghost use Rattle.c_meanings.specs.Meanings.{IsReady, IsRow, judged_to, node_in, slots_of};
-ghost use Rattle.c_declarator_rows.specs.Lengths.{HaveLengths, KidsHaveLengths};
+ghost use Rattle.c_declarator_rows.specs.Lengths.{KidsHaveLengths};
 ghost use Rattle.c_declarator_rows.specs.Parameters.{listed, parameter_faults, types_at};
 
 use crate::members::{id_at, other_kids};
@@ -37,7 +37,6 @@ pub fn function_part(
     requires within { node < length nodes.now }
     requires kind { (node_in nodes.now node).label.kind ≡ kind.Takes }
     requires part { is_whole (nodes_in nodes.now) (node_in nodes.now node) ≡ false }
-    requires lengths { HaveLengths nodes.now node }
     requires ready { IsReady nodes.now node 0 meanings.old }
     ensures { IsRow nodes.now node meanings.old meanings.new result }
 {

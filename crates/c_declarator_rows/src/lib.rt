@@ -8,15 +8,17 @@
 //
 // The theorem, on each row: `IsRow` of `c_meanings`, where the node is of the row's kind.
 //
-// `words` has words among specs, `said` specs together, `tags` enums and structs without a body, `members` members of structs,
-// `types` names of types and parameters, `parts` names and pointers as parts of declarators, `arrays` arrays and `functions`
-// functions as such parts, and `answers` what rows answer.
+// `words` has words among specs, `said` specs together, `tags` enums and structs without a body, `enumerators` enumerators,
+// `members` members of structs, `types` names of types and parameters, `parts` names and pointers as parts of declarators,
+// `arrays` arrays and `functions` functions as such parts, `again` names that are declared again, and `answers` what rows answer.
 //
 // Source: C99 6.7.
 #![tactic(auto)]
 
+mod again;
 mod answers;
 mod arrays;
+mod enumerators;
 mod functions;
 mod members;
 mod parts;
@@ -26,6 +28,7 @@ mod types;
 mod words;
 
 pub use arrays::array_part;
+pub use enumerators::enumerator;
 pub use functions::function_part;
 pub use members::member;
 pub use parts::{name_part, pointer_part};

@@ -15,7 +15,7 @@ ghost use Rattle.c_type_ids.specs.Ids.{AreMembers};
 ghost use Rattle.c_judgements.specs.Judged.{AreJudged};
 ghost use Rattle.c_meanings.specs.Meanings.{IsReady, IsRow, node_in, slots_of};
 ghost use Rattle.c_declarator_rows.specs.Lengths as lengths;
-ghost use Rattle.c_declarator_rows.specs.Lengths.{FindsAll, FindsId, HaveLengths, HasLengthAt, KidsHaveLengths, as_members};
+ghost use Rattle.c_declarator_rows.specs.Lengths.{FindsAll, FindsId, HasLengthAt, KidsHaveLengths, as_members};
 
 use c_answers::Refusal;
 use c_judgements::{Judged, Members};
@@ -36,7 +36,6 @@ pub fn member(
 ) -> Result<Judged, Refusal>
     requires within { node < length nodes.now }
     requires kind { (node_in nodes.now node).label.kind ≡ kind.Member }
-    requires lengths { HaveLengths nodes.now node }
     requires ready { IsReady nodes.now node 0 meanings.now }
     ensures { IsRow nodes.now node meanings.now meanings.now result }
 {

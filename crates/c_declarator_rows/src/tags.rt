@@ -10,7 +10,6 @@ ghost use Rattle.c_judgements.specs.Judged.{AreJudged};
 ghost use Rattle.c_tags.specs.Tags.{AreTags};
 ghost use Rattle.c_meanings.specs.Meanings.{IsReady, IsRow, node_in, slots_of};
 ghost use Rattle.c_declarator_rows.specs.Tagged as tagged;
-ghost use Rattle.c_declarator_rows.specs.Tagged.{HasRoom};
 
 use c_answers::Refusal;
 use c_judgements::Judged;
@@ -59,7 +58,6 @@ pub fn struct_reference(
     requires kind { (node_in nodes.now node).label.kind ≡ kind.StructSpec }
     requires bodiless { has_kid (node_in nodes.now node) 0 ≡ false }
     requires tags { AreTags nodes.now tags.now }
-    requires room { HasRoom nodes.now node meanings.old }
     requires ready { IsReady nodes.now node 0 meanings.old }
     ensures { IsRow nodes.now node meanings.old meanings.new result }
 {

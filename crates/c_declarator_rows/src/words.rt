@@ -80,7 +80,10 @@ fn name_at(
     name_of(denoted[node], names)
 }
 
-fn name_of(denoted: Option<usize>, names: &[Option<DeclaredName>]) -> Option<DeclaredName>
+pub(crate) fn name_of(
+    denoted: Option<usize>,
+    names: &[Option<DeclaredName>],
+) -> Option<DeclaredName>
     ensures { result ≡ named_by denoted names.now }
 {
     match denoted {

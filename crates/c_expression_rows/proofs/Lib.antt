@@ -1,3 +1,5 @@
+pub mod ArgumentLaws
+pub mod CallRowLaws
 pub mod ChoiceLaws
 pub mod ParenthesesLaws
 pub mod PrefixLaws

@@ -9,12 +9,16 @@
 // The theorem, on each row: `IsRow` of `c_meanings`, where the node is of the row's kind.
 //
 // `constants` has constants, `strings` string literals, `enclosed` what stands in parentheses, `elements` elements of arrays,
-// `members` members of structs, `prefixes` operators before their operand, `sizes` `sizeof`, `casts` casts, `operators` the
-// operators of two operands, `choices` `?:`; `operands` takes the two operands of a node.
+// `members` members of structs, `calls` calls, `prefixes` operators before their operand, `sizes` `sizeof`, `casts` casts,
+// `operators` the operators of two operands, `choices` `?:`; `operands` takes the two operands of a node, `arguments` those of
+// a call, and `callees` looks at what is called.
 //
 // Source: C99 6.5.
 #![tactic(auto)]
 
+mod arguments;
+mod callees;
+mod calls;
 mod casts;
 mod choices;
 mod constants;
@@ -27,6 +31,7 @@ mod prefixes;
 mod sizes;
 mod strings;
 
+pub use calls::call;
 pub use casts::cast;
 pub use choices::conditional;
 pub use constants::{character, integer};

@@ -3,3 +3,5 @@ pub mod Parts
 pub mod Specs
 pub mod Typedefs
 pub mod Owners
+pub mod Lengths
+pub mod Prefixes

@@ -1,5 +1,5 @@
 -- A declarator of a parameter or a member has no initializer.
-use Rattle.std.proofs.Common.{◌≡◌, ◌⊎◌, inl, inr, ℕ, zero, suc, ◌<◌, ◌≤◌, Bool, true, false, not, ◌&&◌, List, [], ◌∷◌, Option, Some, None, map, refl, sym, ap, ◌∙◌, subst, arith, true≢false}
+use Rattle.std.proofs.Common.{◌≡◌, ◌⊎◌, inl, inr, ℕ, zero, suc, ◌<◌, ◌≤◌, Bool, true, false, ◌&&◌, List, [], ◌∷◌, Option, Some, None, length, map, refl, sym, ap, ◌∙◌, subst, arith, true≢false}
 use Rattle.std.specs.Prelude.{slice_get, unwrap_or, filter, ◌==◌, if◌then◌else◌}
 use Rattle.std.specs.List.{last_or}
 use Rattle.std.proofs.lemmas.Bool.Decides.{Decides-eqb}
@@ -8,15 +8,13 @@ use Rattle.c_syntax.specs.declared.kind.SynKind.{SynKind}
 use Rattle.c_syntax.specs.declared.kind.SynKind.TheVariants as kind
 use Rattle.c_syntax.specs.Trees.{Tree}
 use Rattle.c_grammar.specs.Derivation.{IsTreeOf}
-use Rattle.c_typing.specs.Places.{Node, nodes, node_at, nowhere, kind_at, has_kid, is_declarator, is_init, in_declarator, whole_declarator}
-use Rattle.c_typing.specs.Names.{Places, places}
+use Rattle.c_typing.specs.Places.{Node, nodes, node_at, nowhere, is_declarator, is_init, in_declarator, whole_declarator}
 use Rattle.c_typing.specs.Shapes as category
-use Rattle.c_typing.specs.Shapes.{Category, begins_with, category_by, stands_in}
+use Rattle.c_typing.specs.Shapes.{Category, begins_with, category_by, is_absent_name, stands_in}
 use Rattle.c_typing.specs.ShapesOfNodes.{category_at}
 use Rattle.c_typing.proofs.ProgressForms.{is_part, split}
 use Rattle.c_typing.proofs.ProgressAll.{found_at}
-use Rattle.c_typing.proofs.ProgressPlaces.{Linked, AreLinked, are_linked, stands, some_same}
-use Rattle.c_typing.proofs.ProgressOwners.{is_owner}
+use Rattle.c_typing.proofs.ProgressPlaces.{Linked, AreLinked, stands, some_same}
 use Rattle.c_typing.proofs.ShapesNodes.{node_placed}
 use Rattle.c_typing.proofs.MadeNodes.{In, in_at, nested, node_bounds, crossed, kid_within}
 use Rattle.c_typing.proofs.MadePlaced.{numbered, found, kid_found}
@@ -94,21 +92,47 @@ no_init kind.Param e = refl
 no_init kind.TypeName e = refl
 no_init k e = absurd (true≢false (sym e))
 
--- without a name
-absent_begins : (c : Category) → is_part c ≡ true → begins_with c kind.NoName ≡ true → (k : SynKind) → stands_in c k ≡ true → is_init k ≡ false
-unfolding begins_with stands_in
-absent_begins category.declarator e b k s = absurd (true≢false (sym b))
-absent_begins category.abstract_declarator e b k s = by k s
+-- what begins with the place of an absent name
+begins_absent : (c : Category) → begins_with c kind.NoName ≡ true → (c ≡ category.abstract_declarator) ⊎ (c ≡ category.no_name)
+unfolding begins_with
+begins_absent category.abstract_declarator e = inl refl
+begins_absent category.no_name e = inr refl
+begins_absent c e = absurd (true≢false (sym e))
+
+absent_stands : (c : Category) → begins_with c kind.NoName ≡ true → (k : SynKind) → stands_in c k ≡ true → is_init k ≡ false
+unfolding stands_in
+absent_stands c b k s = by (begins_absent c b)
   where
-    by : (k : SynKind) → stands_in category.abstract_declarator k ≡ true → is_init k ≡ false
-    by kind.InitDecl s = absurd (true≢false (sym s))
-    by _ s = refl
-absent_begins category.no_name e b k s = by k s
+    abstract : (k : SynKind) → stands_in category.abstract_declarator k ≡ true → is_init k ≡ false
+    abstract kind.InitDecl s = absurd (true≢false (sym s))
+    abstract _ s = refl
+
+    absent : (k : SynKind) → stands_in category.no_name k ≡ true → is_init k ≡ false
+    absent kind.InitDecl s = absurd (true≢false (sym s))
+    absent _ s = refl
+
+    by : (c ≡ category.abstract_declarator) ⊎ (c ≡ category.no_name) → is_init k ≡ false
+    by (inl same) = abstract k (ap (λ x. stands_in x k) (sym same) ∙ s)
+    by (inr same) = absent k (ap (λ x. stands_in x k) (sym same) ∙ s)
+
+absent_kind : (c : Category) (k : SynKind) → is_part c ≡ true → begins_with c k ≡ true → (c ≡ category.declarator) ⊎ (k ≡ kind.NoName)
+unfolding begins_with
+absent_kind category.declarator k p e = inl refl
+absent_kind category.abstract_declarator k p e = inr (by k e)
   where
-    by : (k : SynKind) → stands_in category.no_name k ≡ true → is_init k ≡ false
-    by kind.InitDecl s = absurd (true≢false (sym s))
-    by _ s = refl
-absent_begins _ e b k s = absurd (true≢false (sym e))
+    by : (k : SynKind) → is_absent_name k ≡ true → k ≡ kind.NoName
+    by kind.NoName e = refl
+    by _ e = absurd (true≢false (sym e))
+absent_kind category.no_name k p e = inr (by k e)
+  where
+    by : (k : SynKind) → is_absent_name k ≡ true → k ≡ kind.NoName
+    by kind.NoName e = refl
+    by _ e = absurd (true≢false (sym e))
+absent_kind _ k p e = absurd (true≢false (sym p))
+
+root_begins : (c : Category) → c ≡ category.unit → begins_with c kind.NoName ≡ true → ⊥
+unfolding begins_with
+root_begins c same e = true≢false (sym (ap (λ x. begins_with x kind.NoName) (sym same) ∙ e))
 
 -- ---- larger nodes that begin with the same name
 
@@ -152,3 +176,40 @@ module _ (tokens : List Token) (t : Tree) (derived : IsTreeOf tokens t) (n nq : 
         by : (x : Node) → is_declarator x.label.kind ≡ true → (s.parent ≡ x) ⊎ (s.parent.first ≡ s.node.first) → ⊥
         by x d (inl same) = true≢false (sym d ∙ (ap (λ (m : Node). is_declarator m.label.kind) (sym same) ∙ no_declarator s.parent.label.kind owner))
         by x d (inr f) = true≢false (sym (begins f) ∙ (ap begins_named (l.shapes.shaped nq s.parent s.above).category ∙ owner_category s.parent.label.kind s.parent.label.text (map (category_at t) s.parent.kids) owner))
+
+  -- no initializer stands behind it
+  module _ (l : AreLinked (category_at t) (nodes t)) (part : is_part (category_at t n) ≡ true) (declares : is_declarator s.node.label.kind ≡ true) (owner : has_none s.parent.label.kind ≡ true) (below : s.node.parent ≡ nq) where
+    named : category_at t n ≡ category.declarator → is_init (node_at (nodes t) (whole_declarator (nodes t) s.node.first).parent).label.kind ≡ false
+    named is =
+        ap (λ (x : Node). is_init (node_at (nodes t) x.parent).label.kind) (whole_named is l owner)
+        ∙ (ap (λ k. is_init (node_at (nodes t) k).label.kind) below ∙ (ap (λ (x : Node). is_init x.label.kind) (found_at (nodes t) nq s.parent s.above) ∙ no_init s.parent.label.kind owner))
+
+    absent : (m : Node) → slice_get (nodes t) s.node.first ≡ Some m → m.label.kind ≡ kind.NoName → is_init (node_at (nodes t) (whole_declarator (nodes t) s.node.first).parent).label.kind ≡ false
+    absent m at is = by (last_there (in_declarator s.node.first) (nodes t) None n s.node s.there (ap (λ b. b && is_declarator s.node.label.kind) ((Decides-eqb s.node.first s.node.first).1 refl) ∙ declares))
+      where
+        by : Found (in_declarator s.node.first) (nodes t) None → is_init (node_at (nodes t) (whole_declarator (nodes t) s.node.first).parent).label.kind ≡ false
+        by (k, x, there, passes, last) = ap (λ o. is_init (node_at (nodes t) (unwrap_or o nowhere).parent).label.kind) last ∙ linked (l.linked k x there)
+          where
+            first : x.first ≡ s.node.first
+            first = (Decides-eqb x.first s.node.first).0 (split {p = x.first == s.node.first} passes).0
+
+            begins : begins_with (category_at t k) kind.NoName ≡ true
+            begins =
+                let low = l.lowest k x there in
+                let same : low.node ≡ m = some_same (sym low.at ∙ (ap (λ j. slice_get (nodes t) j) first ∙ at)) in
+                ap (λ j. begins_with (category_at t k) j) (sym (ap (λ (y : Node). y.label.kind) same ∙ is)) ∙ low.begins
+
+            linked : (suc k ≡ length (nodes t)) ⊎ Linked (nodes t) k x → is_init (node_at (nodes t) x.parent).label.kind ≡ false
+            linked (inl last) = absurd (root_begins (category_at t k) (l.root k x there last) begins)
+            linked (inr q) =
+                ap (λ (y : Node). is_init y.label.kind) (found_at (nodes t) x.parent q.parent q.at)
+                ∙ absent_stands (category_at t k) begins q.parent.label.kind (stands (category_at t) (nodes t) l k x q)
+
+    pub not_init : is_init (node_at (nodes t) (whole_declarator (nodes t) s.node.first).parent).label.kind ≡ false
+    not_init =
+        let low = l.lowest n s.node s.there in
+        by (absent_kind (category_at t n) low.node.label.kind part low.begins) low.node low.at refl
+      where
+        by : {k : SynKind} → (category_at t n ≡ category.declarator) ⊎ (k ≡ kind.NoName) → (m : Node) → slice_get (nodes t) s.node.first ≡ Some m → m.label.kind ≡ k → is_init (node_at (nodes t) (whole_declarator (nodes t) s.node.first).parent).label.kind ≡ false
+        by (inl is) m at same = named is
+        by (inr is) m at same = absent m at (same ∙ is)

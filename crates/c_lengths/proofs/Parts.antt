@@ -4,15 +4,15 @@ use Rattle.std.proofs.Common.{◌≡◌, ℕ, suc, Bool, true, false, not, ◌&&
 use Rattle.std.specs.Prelude.{if◌then◌else◌, filter_map, codes, slice_get}
 use Rattle.c_syntax.specs.declared.kind.SynKind.{SynKind}
 use Rattle.c_syntax.specs.declared.kind.SynKind.TheVariants as kind
-use Rattle.c_typing.specs.Types.{CType, types_of, Layout}
+use Rattle.c_typing.specs.Types.{CType, types_of}
 use Rattle.c_typing.specs.Places.{Node, kid, has_kid, other_kids, parent_of, specs_of, is_whole, is_declarator, is_init, is_next_to_name, node_at, whole_declarator, says}
-use Rattle.c_typing.specs.Names.{Places, name_of}
+use Rattle.c_typing.specs.Names.{Places}
 use Rattle.c_typing.specs.Judgements.{Fault, Typing, Meaning, declares, steps, expresses, PlacedStep, Step, to_pointer, of_array, of_unsized, of_function, Judgement, means, breaks_rules, waits, verdict, given, besides, all_of, before, typing_at, type_at, type_of, steps_at, layouts}
 use Rattle.c_typing.specs.Rules.{many_parameters, bad_parameter, absent_length}
-use Rattle.c_typing.specs.Declarators.{word_in, Built, built, whole_by, whole_type, declarator, build, with_step, adjusted, pointer_declarator, is_parameter_length, is_given_by_initializer, absent_length_step, length_faults, length_step, array_declarator, function_declarator}
+use Rattle.c_typing.specs.Declarators.{word_in, built, whole_type, declarator, build, with_step, pointer_declarator, is_parameter_length, is_given_by_initializer, absent_length_step, length_faults, length_step, array_declarator, function_declarator}
 use Rattle.c_typing.specs.Typing.{judged_by, in_parentheses}
 use Rattle.c_typing.proofs.ProgressBuilt.{is_leaf}
-use Rattle.c_lengths.specs.Lengths.{lacks_length, one_lacks}
+use Rattle.c_lengths.specs.Lengths.{lacks_length}
 use Rattle.c_lengths.proofs.Steps.{InTypes, adjusted_fine, all_fine, at_first, behind, build_fine, more_steps, step_lacks, steps_lack}
 
 -- the declarator of this name has an initializer that may give a length
@@ -93,8 +93,7 @@ module _ (p : Places) (js : List Judgement) (node : Node) where
         whole_part made.type made.faults (λ none. build_fine (layouts js) b ss (base w b e) (ap (λ x. steps_lack x ss) (sym none) ∙ h))))
         (of_steps gives ss h)
 
-    module _ (inner : (ss : List PlacedStep) → steps_at js (kid node 0) ≡ Some ss → steps_lack gives ss ≡ false)
-        (parameters : (i k : ℕ) (t : CType) → slice_get (other_kids node) i ≡ Some k → type_at js k ≡ Some t → lacks_length t ≡ false) where
+    module _ (inner : (ss : List PlacedStep) → steps_at js (kid node 0) ≡ Some ss → steps_lack gives ss ≡ false) where
       stepped : (ss : List PlacedStep) (s : Step) → steps_at js (kid node 0) ≡ Some ss → step_lacks gives s ≡ false → Part gives (declarator p js node (with_step ss node s))
       stepped ss s e h = declarator_part (with_step ss node s) (more_steps gives ss node s (inner ss e) h)
 
@@ -150,28 +149,32 @@ module _ (p : Places) (js : List Judgement) (node : Node) where
           by None own e h2 = absurd (gone e)
           by (Some u) own e h2 = more u own (all_of (map (type_at js) ks)) h2 e
 
-      types_fine : (ts : List CType) → all_of (map (type_at js) (other_kids node)) ≡ Some ts → one_lacks (types_of ts) ≡ false
-      types_fine ts e = all_fine ts (λ t i. found (other_kids node) parameters ts e t i)
+      abbrev pub Parameters : Type 0
+      Parameters = (i k : ℕ) (t : CType) → slice_get (other_kids node) i ≡ Some k → type_at js k ≡ Some t → lacks_length t ≡ false
 
-      kinds : (k : SynKind) → is_declarator k ≡ true → Part gives (judged_by p js node k)
-      unfolding judged_by pointer_declarator array_declarator function_declarator
-      kinds kind.Ident e = declarator_part [] refl
-      kinds kind.NoName e = declarator_part [] refl
-      kinds kind.Paren e = parentheses_part (typing_at js (kid node 0))
-      kinds kind.Pointer e = of_given_part gives (steps_at js (kid node 0)) _ (λ ss f. stepped ss to_pointer f refl)
-      kinds kind.ArrayOf e =
-          of_given_part gives (steps_at js (kid node 0)) _ (λ ss f. of_choice gives (has_kid node 1) _ _ (λ h. of_given_part gives (typing_at js (kid node 1)) _ (λ x q. length_part ss x f)) (absent_part ss f))
-      kinds kind.Takes e =
+      takes_part : Parameters → Part gives (judged_by p js node kind.Takes)
+      unfolding judged_by function_declarator
+      takes_part h =
           of_besides gives (many_parameters (length (map (type_at js) (other_kids node))) node.id ++ bad_parameter (filter_map (λ part. part) (map (type_at js) (other_kids node))) node.id) _
-          (of_given_part gives (steps_at js (kid node 0)) _ (λ ss f. of_given_part gives (all_of (map (type_at js) (other_kids node))) _ (λ types q. stepped ss (of_function (types_of types)) f (types_fine types q))))
-      kinds _ e = absurd (true≢false (sym e))
+          (of_given_part gives (steps_at js (kid node 0)) _ (λ ss f. of_given_part gives (all_of (map (type_at js) (other_kids node))) _ (λ types q. stepped ss (of_function (types_of types)) f (all_fine types (λ t i. found (other_kids node) h types q t i)))))
+
+      kinds : (k : SynKind) → is_declarator k ≡ true → (k ≡ kind.Takes → Parameters) → Part gives (judged_by p js node k)
+      unfolding judged_by pointer_declarator array_declarator
+      kinds kind.Ident e h = declarator_part [] refl
+      kinds kind.NoName e h = declarator_part [] refl
+      kinds kind.Paren e h = parentheses_part (typing_at js (kid node 0))
+      kinds kind.Pointer e h = of_given_part gives (steps_at js (kid node 0)) _ (λ ss f. stepped ss to_pointer f refl)
+      kinds kind.ArrayOf e h =
+          of_given_part gives (steps_at js (kid node 0)) _ (λ ss f. of_choice gives (has_kid node 1) _ _ (λ there. of_given_part gives (typing_at js (kid node 1)) _ (λ x q. length_part ss x f)) (absent_part ss f))
+      kinds kind.Takes e h = takes_part (h refl)
+      kinds _ e h = absurd (true≢false (sym e))
 
     -- a name, or the place of an absent one, has no part
     pub any_part : (k : SynKind) → is_declarator k ≡ true
         → (is_leaf k ≡ false → (ss : List PlacedStep) → steps_at js (kid node 0) ≡ Some ss → steps_lack gives ss ≡ false)
-        → ((i k : ℕ) (t : CType) → slice_get (other_kids node) i ≡ Some k → type_at js k ≡ Some t → lacks_length t ≡ false)
+        → (k ≡ kind.Takes → (i k : ℕ) (t : CType) → slice_get (other_kids node) i ≡ Some k → type_at js k ≡ Some t → lacks_length t ≡ false)
         → Part gives (judged_by p js node k)
     unfolding judged_by
     any_part kind.Ident e h params = declarator_part [] refl
     any_part kind.NoName e h params = declarator_part [] refl
-    any_part k e h params = kinds (h refl) params k e
+    any_part k e h params = kinds (h refl) k e params

@@ -1,10 +1,10 @@
 -- What declarators build of a type in which no array is without a length.
-use Rattle.std.proofs.Common.{◌≡◌, ℕ, Bool, true, false, not, ◌||◌, List, [], ◌∷◌, refl, ap, subst, true≢false}
+use Rattle.std.proofs.Common.{◌≡◌, Bool, true, false, not, ◌||◌, List, [], ◌∷◌, refl, true≢false}
 use Rattle.c_syntax.specs.declared.kind.SynKind.{SynKind}
 use Rattle.c_syntax.specs.declared.kind.SynKind.TheVariants as kind
-use Rattle.c_typing.specs.Types.{CType, CTypes, void, integer, pointer, array, unsized, struct, function, Layout, no_types, a_type, types_of}
+use Rattle.c_typing.specs.Types.{CType, array, Layout, types_of}
 use Rattle.c_typing.specs.Places.{Node}
-use Rattle.c_typing.specs.Judgements.{Fault, PlacedStep, Step, to_pointer, of_array, of_unsized, of_parameter, of_function}
+use Rattle.c_typing.specs.Judgements.{Fault, PlacedStep, Step, to_pointer, of_array, of_unsized, of_function}
 use Rattle.c_typing.specs.Declarators.{adjusted, build, built, stepped_from, with_step}
 use Rattle.c_lengths.specs.Lengths.{lacks_length, one_lacks}
 

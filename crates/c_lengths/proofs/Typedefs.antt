@@ -1,10 +1,10 @@
 -- The specs of a typedef name say `typedef`.
-use Rattle.std.proofs.Common.{◌≡◌, ℕ, Bool, true, false, ◌||◌, List, [], ◌∷◌, Option, Some, None, refl, sym, ap, ◌∙◌, true≢false}
-use Rattle.std.specs.Prelude.{codes, if◌then◌else◌, slice_get}
+use Rattle.std.proofs.Common.{◌≡◌, ℕ, Bool, true, false, ◌||◌, List, [], Option, Some, None, refl, sym, ap, ◌∙◌, true≢false}
+use Rattle.std.specs.Prelude.{codes, if◌then◌else◌}
 use Rattle.c_syntax.specs.declared.kind.SynKind.{SynKind}
 use Rattle.c_syntax.specs.declared.kind.SynKind.TheVariants as kind
 use Rattle.c_typing.specs.Places.{Node, Scope, is_file_scope, node_at, scope_at, specs_of, says, whole_declarator}
-use Rattle.c_typing.specs.Names.{Entity, Name, automatic, declares_function, entity_by, enumerator, function_name, is_typedef, name_list, names_by, names_from, parameter, static_object, typedef_name}
+use Rattle.c_typing.specs.Names.{Entity, Name, automatic, declares_function, entity_by, function_name, is_typedef, name_list, names_by, names_from, static_object, typedef_name}
 use Rattle.c_typing.proofs.ProgressDeclared.{AllNames, all_from}
 
 abbrev pub says_typedef : List Node → Node → Bool

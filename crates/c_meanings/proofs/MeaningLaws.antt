@@ -109,6 +109,7 @@ module _ (table : List SynNode) (n k : ℕ) (parent : (node_in table k).parent �
       judged = judged_kept b left owned;
       long = long_kept b left;
       laid = r.laid;
+      room = r.room;
       whole = λ i within free own. by i within free own (other_place i k);
       cells = cells_kept b left;
     }
@@ -309,6 +310,7 @@ module _ (table : List SynNode) (n : ℕ) (old new : Meanings) (answer : Result 
         (subst (AreJudged new.types (slots_of new ++ s ∷ [])) (sym (next_judged table n inside)) (pushed new.types (slots_of new) (judged_to table n) s (judged_at table n) row.judged own.0));
     long = ap length is ∙ length-append (slots_of new) (s ∷ []) ∙ ap (λ k. k + 1) new_long;
     laid = row.laid (slot_told answer s slot);
+    room = row.room;
     whole = λ i less free low. whole_after i free (place i less);
     cells = λ i less. cells_after i (place i less);
   }
@@ -322,14 +324,15 @@ no_structs k count e = λ node. subst (λ o. LaidAs k o None) (sym (ap (λ struc
     by (suc count) zero = refl
     by (suc count) (suc node) = by count node
 
-pub first_ready : (table : List SynNode) (m : Meanings) → IsDerived table → length (nodes_in table) ≡ length table → AreJudged m.types (slots_of m) [] → AreLaid m.types [] → IsReady table 0 0 m
+pub first_ready : (table : List SynNode) (m : Meanings) → IsDerived table → length (nodes_in table) ≡ length table → AreJudged m.types (slots_of m) [] → AreLaid m.types [] → length m.types.structs ≡ length table → IsReady table 0 0 m
 unfolding judged_to judged_from
-first_ready table m derived nodes judged laid = record {
+first_ready table m derived nodes judged laid room = record {
   derived = derived;
   nodes = nodes;
   judged = judged;
   long = judged.long;
   laid = laid;
+  room = room;
   whole = λ k less. absurd (omega (arith, less));
   cells = λ k less. absurd (omega (arith, less));
 }
@@ -387,6 +390,7 @@ ready_grows table n low old new r same grows = record {
   judged = subst (λ slots. AreJudged new.types slots (judged_to table n)) (sym same) (all_grow old.types new.types grows.keeps (slots_of old) (judged_to table n) r.judged);
   long = ap length same ∙ r.long;
   laid = grows.laid (rules.layouts (judged_to table n)) r.laid;
+  room = grows.keeps.long ∙ r.room;
   whole = λ k less free low. ap (λ slots. is_whole (get_or slots k taken)) same ∙ r.whole k less free low;
   cells = λ k less. ap (λ slots. keeps_cells (get_or slots k taken)) same ∙ r.cells k less;
 }
@@ -402,6 +406,7 @@ grown_row table n low old mid new answer r within left same grows other answered
       subst (AreLaid new.types)
       (sym (ap rules.layouts (next_judged table n (let nodes = r.nodes in omega (arith, within, nodes))) ∙ layouts_next (judged_to table n) (judged_at table n) (laid_alone new.types answer (judged_at table n) answered other known)))
       (grows.laid (rules.layouts (judged_to table n)) r.laid);
+  room = grows.keeps.long ∙ r.room;
   left = λ k less free. ap (λ slots. get_or slots k taken) same ∙ left k less free;
   cells = λ k less. ap (λ slots. keeps_cells (get_or slots k taken)) same ∙ r.cells k less;
 }

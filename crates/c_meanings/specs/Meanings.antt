@@ -57,14 +57,15 @@ abbrev pub IsFree : List SynNode → ℕ → ℕ → Type 0
 IsFree table n k =
     (n ≤ (node_in table k).parent) ⊎ ((is_braces (kind_at (nodes_in table) (node_in table k).parent) ≡ true) × (n ≤ (node_in table (node_in table k).parent).parent))
 
--- Before the node n is judged: all nodes before it are, the complete structs are laid out, and nothing has been taken that this
--- node or a later one may want, but for its kids before the node `low`.
+-- Before the node n is judged: all nodes before it are, the complete structs are laid out, each node has a place for a struct that
+-- it may name, and nothing has been taken that this node or a later one may want, but for its kids before the node `low`.
 pub record IsReady (table : List SynNode) (n low : ℕ) (m : Meanings) : Type 0 where
   pub derived : IsDerived table
   pub nodes : length (nodes_in table) ≡ length table
   pub judged : AreJudged m.types (slots_of m) (judged_to table n)
   pub long : length (slots_of m) ≡ n
   pub laid : AreLaid m.types (layouts (judged_to table n))
+  pub room : length m.types.structs ≡ length table
   pub whole : (k : ℕ) → k < n → IsFree table n k → ((node_in table k).parent ≡ n → low ≤ k) → is_whole_at m k ≡ true
   pub cells : (k : ℕ) → k < n → keeps_cells (get_or (slots_of m) k taken) ≡ true
 
@@ -104,6 +105,7 @@ pub record IsRow (table : List SynNode) (n : ℕ) (old new : Meanings) (answer :
   pub answered : IsAnswered new.types answer (judged_at table n)
   pub judged : AreJudged new.types (slots_of new) (judged_to table n)
   pub laid : answer ≢ Err refusal.OutOfMemory → AreLaid new.types (layouts (judged_to table (n + 1)))
+  pub room : length new.types.structs ≡ length table
   pub left : AreLeft table n old new
   pub cells : (k : ℕ) → k < n → keeps_cells (get_or (slots_of new) k taken) ≡ true
 

@@ -1,1 +1,4 @@
 pub mod StatementLaws
+mod PartLaws
+mod JumpLaws
+mod BlockLaws

@@ -1,6 +1,6 @@
 -- What statements mean by their kinds and by what their parts mean.
 use Rattle.std.proofs.Common.{◌≡◌, ◌≤◌, ℕ, zero, suc, Bool, true, false, List, [], ◌∷◌, Option, Some, None, length, refl, sym, ap, ◌∙◌, subst, arith}
-use Rattle.std.specs.Prelude.{MatchOption, Err, is_some, option_map, slice_get, ◌&&◌}
+use Rattle.std.specs.Prelude.{Err, is_some, option_map, slice_get, ◌&&◌}
 use Rattle.std.proofs.lemmas.Bool.{false≢true}
 use Rattle.c_syntax.specs.declared.kind.SynKind.TheVariants as kind
 use Rattle.c_syntax.specs.declared.syntax.SynNode.{SynNode}

@@ -8,13 +8,18 @@
 //
 // The theorem, on each row: `IsRow` of `c_meanings`, where the node is of the row's kind.
 //
-// `simple` has statements without parts that are statements, `loops` those with a condition and parts.
+// `simple` has statements without parts that are statements, `loops` those with a condition and parts, `jumps` `break` and
+// `continue`, `blocks` blocks.
 //
 // Source: C99 6.8.
 #![tactic(auto)]
 
+mod blocks;
+mod jumps;
 mod loops;
 mod simple;
 
+pub use blocks::block;
+pub use jumps::{break_out, go_on};
 pub use loops::{conditional, do_loop, while_loop};
 pub use simple::{empty, expression};

@@ -3,18 +3,16 @@ use Rattle.std.specs.Prelude.{Err}
 use Rattle.std.specs.List.{AllByRecursion}
 use Rattle.c_types.specs.Tables.{IsThere}
 use Rattle.c_typing.specs.Types.{types_of}
-use Rattle.c_typing.specs.Names.{is_declaration}
-use Rattle.c_typing.specs.Places.{is_init, other_kids}
+use Rattle.c_typing.specs.Places.{other_kids}
 use Rattle.c_typing.specs.Judgements.{all_of, besides, steps_at}
 use Rattle.c_type_ids.specs.Ids.{NamesAll}
 use Rattle.c_answers.specs.Answers.{IsFirst}
 use Rattle.c_declared_types.proofs.BuildLaws.{all_there}
 use Rattle.c_meanings.specs.Meanings.{judged_to, kid_in, node_in}
 use Rattle.c_meanings.proofs.MeaningLaws.{its_number}
-use Rattle.c_declarator_rows.specs.Lengths.{HasLengthAt}
 use Rattle.c_declarator_rows.specs.Parameters.{parameter_faults, types_at}
 use Rattle.c_declarator_rows.proofs.FunctionRowLaws.{faults_are, fits, function_by, function_is, function_layout, function_refused, its_parts, kids_counted}
-use Rattle.c_declarator_rows.proofs.MemberRowLaws.{all_others, none_lacks}
+use Rattle.c_declarator_rows.proofs.KidLengths.{parameter_lengths}
 use Rattle.c_declarator_rows.proofs.RowLaws.{still_row, within_nodes}
 use Rattle.c_declarator_rows.proofs.functions.function_part.Goals as goal
 
@@ -25,7 +23,7 @@ check-requires-clause-there c =
     let m = c.args.meanings.now in
     let js = judged_to table n in
     let inside = within_nodes table n 0 m c.requires.ready c.requires.within in
-    let have = all_others (HasLengthAt js) table n (λ i has. none_lacks table n i c.requires.ready.derived inside (ap is_init c.requires.kind) (ap is_declaration c.requires.kind) c.requires.lengths has) in
+    let have = parameter_lengths table n c.requires.ready.derived inside c.requires.kind in
     let named = c.in_ok-takes.ensures js c.requires.ready.judged have in
     subst (AllByRecursion (IsThere m.types.table)) (sym c.as_slice.ensures) (all_there m.types c.in_ok-takes.takes (types_of (types_at js (other_kids (node_in table n)))) named)
 
@@ -36,7 +34,7 @@ check-requires-clause-count c =
     let m = c.args.meanings.now in
     let js = judged_to table n in
     let inside = within_nodes table n 0 m c.requires.ready c.requires.within in
-    let have = all_others (HasLengthAt js) table n (λ i has. none_lacks table n i c.requires.ready.derived inside (ap is_init c.requires.kind) (ap is_declaration c.requires.kind) c.requires.lengths has) in
+    let have = parameter_lengths table n c.requires.ready.derived inside c.requires.kind in
     let named = c.in_ok-takes.ensures js c.requires.ready.judged have in
     let kids = c.other_kids-count.result.now in
     subst (λ ids. length ids ≤ length kids) (sym c.as_slice.ensures) (fits table n m.types c.in_ok-takes.takes (length kids) (kids_counted table n kids c.other_kids-count.ensures.are) named)
@@ -48,7 +46,7 @@ function_of-requires-clause-named c =
     let m = c.args.meanings.now in
     let js = judged_to table n in
     let inside = within_nodes table n 0 m c.requires.ready c.requires.within in
-    let have = all_others (HasLengthAt js) table n (λ i has. none_lacks table n i c.requires.ready.derived inside (ap is_init c.requires.kind) (ap is_declaration c.requires.kind) c.requires.lengths has) in
+    let have = parameter_lengths table n c.requires.ready.derived inside c.requires.kind in
     c.in_ok-takes.ensures js c.requires.ready.judged have
 
 pub function_of-requires-clause-allowed : goal.function_of-requires-clause-allowed
@@ -58,7 +56,7 @@ function_of-requires-clause-allowed c =
     let m = c.args.meanings.now in
     let js = judged_to table n in
     let inside = within_nodes table n 0 m c.requires.ready c.requires.within in
-    let have = all_others (HasLengthAt js) table n (λ i has. none_lacks table n i c.requires.ready.derived inside (ap is_init c.requires.kind) (ap is_declaration c.requires.kind) c.requires.lengths has) in
+    let have = parameter_lengths table n c.requires.ready.derived inside c.requires.kind in
     let named = c.in_ok-takes.ensures js c.requires.ready.judged have in
     let kids = c.other_kids-count.result.now in
     let ts = types_at js (other_kids (node_in table n)) in
@@ -72,7 +70,7 @@ returns-in-Err c =
     let m = c.args.meanings.now in
     let js = judged_to table n in
     let inside = within_nodes table n 0 m c.requires.ready c.requires.within in
-    let have = all_others (HasLengthAt js) table n (λ i has. none_lacks table n i c.requires.ready.derived inside (ap is_init c.requires.kind) (ap is_declaration c.requires.kind) c.requires.lengths has) in
+    let have = parameter_lengths table n c.requires.ready.derived inside c.requires.kind in
     let named = c.in_ok-takes.ensures js c.requires.ready.judged have in
     let kids = c.other_kids-count.result.now in
     let ts = types_at js (other_kids (node_in table n)) in

@@ -1,11 +1,9 @@
 use Rattle.std.proofs.Common.{ap, subst, sym}
-use Rattle.c_typing.specs.Names.{is_declaration}
-use Rattle.c_typing.specs.Places.{is_init}
 use Rattle.c_typing.specs.Judgements.{given, means, members}
 use Rattle.c_type_ids.proofs.IdLaws.{if_ok}
 use Rattle.c_meanings.specs.Meanings.{IsAnswered, judged_to}
-use Rattle.c_declarator_rows.specs.Lengths.{HasLengthAt}
-use Rattle.c_declarator_rows.proofs.MemberRowLaws.{all_others, its_members, member_is, member_layout, members_answered, none_lacks}
+use Rattle.c_declarator_rows.proofs.MemberRowLaws.{its_members, member_is, member_layout, members_answered}
+use Rattle.c_declarator_rows.proofs.KidLengths.{member_lengths}
 use Rattle.c_declarator_rows.proofs.RowLaws.{still_row, within_nodes}
 use Rattle.c_declarator_rows.proofs.members.member.Goals as goal
 
@@ -17,7 +15,7 @@ returns c =
     let js = judged_to table n in
     let meant = given (its_members table n) (λ fields. means (members fields)) in
     let inside = within_nodes table n 0 m c.requires.ready c.requires.within in
-    let have = all_others (HasLengthAt js) table n (λ i has. none_lacks table n i c.requires.ready.derived inside (ap is_init c.requires.kind) (ap is_declaration c.requires.kind) c.requires.lengths has) in
+    let have = member_lengths table n c.requires.ready.derived inside c.requires.kind in
     still_row table n 0 m c.joined.result meant c.requires.ready c.requires.within (member_is table n c.requires.kind) (member_layout table n)
     (subst (λ a. IsAnswered m.types a meant) (sym c.joined.ensures)
     (members_answered m.types c.all_members.result (its_members table n) (if_ok _ _ c.all_members.result (λ found h. h js c.requires.ready.judged have) c.all_members.ensures)))

@@ -8,6 +8,7 @@ use Rattle.c_answers.specs.declared.refusal.Refusal.TheVariants as refusal
 use Rattle.c_meanings.specs.declared.meanings.Meanings.{Meanings}
 use Rattle.c_meanings.specs.Meanings.{IsAnswered, node_in}
 use Rattle.c_meanings.proofs.MeaningLaws.{its_number, nothing_taken}
+use Rattle.c_declarator_rows.proofs.RoomLaws.{has_room}
 use Rattle.c_declarator_rows.proofs.RowLaws.{row_by, still_row}
 use Rattle.c_declarator_rows.proofs.TagRowLaws.{its_tag, its_twice, reference, reference_is, reference_layout, reference_made, reference_twice, tag_told}
 use Rattle.c_declarator_rows.proofs.tags.struct_reference.Goals as goal
@@ -30,7 +31,7 @@ structure-requires c =
     let m = c.args.meanings.now in
     let own = its_number table n 0 m c.requires.ready c.requires.within in
     let tag = tag_told table n c.args.tags.now c.tag_at-tag.result own c.requires.tags c.requires.within c.tag_at-tag.ensures in
-    subst (λ i. i < length m.types.structs) (sym (c.names_of.ensures (places_in table) (node_in table n) (its_tag table n) own tag)) c.requires.room
+    subst (λ i. i < length m.types.structs) (sym (c.names_of.ensures (places_in table) (node_in table n) (its_tag table n) own tag)) (has_room table n 0 m c.requires.ready c.requires.within)
 
 pub returns : goal.returns
 returns c =
