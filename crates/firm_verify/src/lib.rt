@@ -21,6 +21,8 @@
 
 mod all;
 mod broken;
+mod chains;
+mod coming;
 mod counts;
 mod cycles;
 mod defined;
@@ -31,6 +33,7 @@ mod lists;
 mod loops;
 mod memory;
 mod phis;
+mod takes;
 mod tree;
 
 pub use all::verify;
