@@ -1,5 +1,6 @@
 -- The rules one by one, and all of them.
-use Rattle.std.proofs.Common.{ℕ, ◌<◌, length, Option}
+use Rattle.std.proofs.Common.{ℕ, ◌<◌, length, Option, Some, None}
+use Rattle.std.specs.Prelude.{IfNone}
 use Rattle.firm_rules.specs.declared.node.NodeId.{NodeId}
 use Rattle.firm_rules.specs.Graphs.{Firm}
 use Rattle.firm_rules.specs.Rules.{Obeys}
@@ -50,3 +51,7 @@ broken g rule named b (head is bad) o = bad (o.blocks b is).entered_at_head
 broken g rule named b (operand n at) o = at.3 (o.nodes n.number at.0 at.1).operands_defined
 broken g rule named b (end_use is bad) o = bad (o.blocks b is).end_defined
 broken g rule named b (edges is bad) o = bad (o.blocks b is).edges_fit
+
+pub none_obeys : {T : Type 0} (g : Firm) (found : Option T) → 0 < length g.order → IfNone found (HoldAll g) → IfNone found (Obeys g)
+none_obeys g None some h = obeys g some h
+none_obeys g (Some x) some h = tt

@@ -1,6 +1,6 @@
 // All tests, in the order of the rules.
 ghost use Rattle.std.specs.Prelude.{◌<◌, length, IfOk, IfSome, IfNone};
-ghost use Rattle.firm_rules.specs.Rules.{IsWhole};
+ghost use Rattle.firm_rules.specs.Rules.{IsWhole, Obeys};
 ghost use Rattle.firm_tables.specs.Nodes.{numbers};
 ghost use Rattle.firm_verify.specs.Broken.{Rule4, IsFirstBroken, HoldAtNodes, HoldAll};
 ghost use Rattle.firm_verify.specs.Tables.{AreNodes, AreRanks};
@@ -18,12 +18,12 @@ use crate::takes::check_memory;
 use firm_nodes::{Graph, NodeId};
 use std::alloc::{AllocError, Global};
 
-/// The first rule that the graph breaks, and where; none where all hold.
+/// The first rule that the graph breaks, and where; none where it obeys all.
 pub fn verify(alloc: Global, graph: &Graph) -> Result<Option<Broken>, AllocError>
     requires whole { IsWhole graph.now }
     requires some_block { 0 < length graph.now.order }
     ensures some { IfOk result (λ found. IfSome found (λ broken. IsFirstBroken graph.now broken.rule broken.node broken.block.number)) }
-    ensures none { IfOk result (λ found. IfNone found (HoldAll graph.now)) }
+    ensures none { IfOk result (λ found. IfNone found (Obeys graph.now)) }
 {
     let nodes = all_nodes(alloc, graph)?;
     let ranks = ranks_of(alloc, graph)?;
@@ -31,7 +31,8 @@ pub fn verify(alloc: Global, graph: &Graph) -> Result<Option<Broken>, AllocError
     if found.is_some() {
         return Ok(found);
     }
-    check_blocks(alloc, graph, &nodes, &ranks)
+    let late = check_blocks(alloc, graph, &nodes, &ranks)?;
+    Ok(late)
 }
 
 // Rules 1 to 4.
