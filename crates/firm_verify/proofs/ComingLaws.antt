@@ -1,22 +1,22 @@
 -- What memory comes to each block along walks.
-use Rattle.std.proofs.Common.{◌≡◌, ◌≢◌, ◌==◌, ℕ, zero, suc, ◌+◌, ◌<◌, ◌≤◌, Bool, true, false, true≢false, List, [], ◌∷◌, length, take, get_or, refl, sym, ap, ◌∙◌, subst, arith, if◌then◌else◌, Option, Some, None, inl, inr, ◌⊎◌}
+use Rattle.std.proofs.Common.{◌≡◌, ◌≢◌, ◌==◌, ℕ, suc, ◌+◌, ◌<◌, ◌≤◌, Bool, true, false, true≢false, List, [], ◌∷◌, length, get_or, refl, sym, ap, ◌∙◌, subst, arith, if◌then◌else◌, Option, Some, None, inl, inr}
 use Rattle.std.specs.Prelude.{slice_get, unwrap_or}
 use Rattle.std.proofs.lemmas.Bool.{cases_eq, eqb-true, eq-eqb, ne_eqb}
 use Rattle.std.proofs.lemmas.Option.{slice_get-get_or}
 use Rattle.firm_uses.specs.Counts.{times}
-use Rattle.firm_uses.proofs.CountLaws.{one, one_same, one_other, times_found}
-use Rattle.ssa_core.specs.Walks.{Walk, Edge, end, IsWalk}
+use Rattle.firm_uses.proofs.CountLaws.{one, one_other, times_found}
+use Rattle.ssa_core.specs.Walks.{Walk, end, IsWalk}
 use Rattle.firm_rules.specs.declared.node.BlockId.{BlockId}
 use Rattle.firm_rules.specs.Graphs.{Firm}
-use Rattle.firm_rules.specs.Lookups.{IsBlock, preds_of, first_of, shape}
-use Rattle.firm_rules.specs.Rules.{IsWhole, ComesTo, memory_into, memory_after, memory_phi, chain, last_of}
+use Rattle.firm_rules.specs.Lookups.{preds_of, first_of, shape}
+use Rattle.firm_rules.specs.Rules.{IsWhole, memory_into, memory_after, memory_phi, chain, last_of}
 use Rattle.firm_nodes.specs.Kept.{block_numbers}
-use Rattle.firm_nodes.proofs.OrderLaws.{place, place_is, block_at, blocks_long}
+use Rattle.firm_nodes.proofs.OrderLaws.{block_at, blocks_long}
 use Rattle.firm_verify.specs.declared.coming.Coming.{Coming}
 use Rattle.firm_verify.specs.declared.coming.Coming.TheVariants.{Nothing, One, Many}
 use Rattle.firm_verify.specs.declared.chains.Chains.{Chains}
 use Rattle.firm_verify.specs.Broken.{AtBlocks}
-use Rattle.firm_verify.specs.Memory.{AreChains, Brings, Leaves, Two, Told, Covers, Within, through, joined, room, coming_at, leaving, brought, Receives, AreSeen, IsClosedAt, rooms, AreComing}
+use Rattle.firm_verify.specs.Memory.{AreChains, Brings, Leaves, Told, Covers, Within, through, joined, room, coming_at, leaving, brought, Receives, AreSeen, IsClosedAt, rooms, AreComing}
 use Rattle.firm_verify.proofs.CountsLaws.{got}
 use Rattle.firm_verify.proofs.GraphLaws.{each_more, at_blocks}
 use Rattle.firm_verify.proofs.WalkLaws.{is_block_end}

@@ -1,5 +1,5 @@
 -- Where the chains of memory begin and end.
-use Rattle.std.proofs.Common.{◌≡◌, ◌≢◌, ◌==◌, ◌&&◌, ℕ, zero, suc, ◌+◌, ◌<◌, ◌≤◌, Bool, true, false, true≢false, not, List, [], ◌∷◌, length, take, get_or, refl, sym, ap, ◌∙◌, subst, arith, Option, Some, None, inl, inr, ◌⊎◌, MatchBool}
+use Rattle.std.proofs.Common.{◌≡◌, ◌≢◌, ◌==◌, ℕ, zero, suc, ◌+◌, ◌<◌, ◌≤◌, Bool, true, false, true≢false, not, List, [], ◌∷◌, length, take, get_or, refl, sym, ap, ◌∙◌, subst, arith, Option, Some, None, inl, inr, MatchBool}
 use Rattle.std.specs.Prelude.{slice_get, unwrap_or, nat_lt, is_some}
 use Rattle.std.proofs.lemmas.Bool.{cases_eq, eqb-true, eq-eqb, ltb-true, ltb-false}
 use Rattle.std.proofs.lemmas.List.{take_all}
@@ -7,8 +7,7 @@ use Rattle.firm_uses.specs.Counts.{times}
 use Rattle.firm_rules.specs.declared.node.NodeId.{NodeId}
 use Rattle.firm_rules.specs.declared.node.NodeOp.{NodeOp}
 use Rattle.firm_rules.specs.Graphs.{FirmNode, Firm, acts}
-use Rattle.firm_rules.specs.Lookups.{node_at}
-use Rattle.firm_rules.specs.Rules.{acts_in, first_node, chain, last_of, is_start, memory_into}
+use Rattle.firm_rules.specs.Rules.{first_node, chain, last_of, is_start, memory_into}
 use Rattle.firm_tables.specs.Nodes.{numbers, node_of}
 use Rattle.firm_tables.proofs.NodeLaws.{agrees, refuses}
 use Rattle.firm_tables.proofs.MemberLaws.{numbers_long}
@@ -19,9 +18,8 @@ use Rattle.firm_verify.specs.Broken.{Rule1, Rule3}
 use Rattle.firm_verify.specs.Tables.{AreNodes}
 use Rattle.firm_verify.specs.Memory.{HasKey, AreOwners, IsLast, AreLasts, AreChains, is_lower}
 use Rattle.firm_verify.proofs.GraphLaws.{node_read, node_seen}
-use Rattle.firm_verify.proofs.PhiLaws.{decides}
 use Rattle.firm_verify.proofs.RivalLaws.{front}
-use Rattle.firm_verify.proofs.ChainLaws.{Acts, taken, acts_some, Passes, first_passes, first_none, first_there, begins, follows, chain_stop, chain_acts, by_passes, passes_by, some_last, first_lowest}
+use Rattle.firm_verify.proofs.ChainLaws.{Acts, taken, Passes, first_none, first_there, begins, follows, chain_stop, chain_acts, by_passes, passes_by, some_last, first_lowest}
 use Rattle.firm_verify.proofs.MemoryLaws.{follows_key, key_follows, there_acts, acts_there, acts_block, chains_fit, phis_fit, first_is, phi_is}
 
 some_same : (x y : ℕ) → Some x ≡ Some y → x ≡ y

@@ -1,15 +1,14 @@
 -- What takes memory takes that which comes along each walk.
-use Rattle.std.proofs.Common.{◌≡◌, ◌≢◌, ◌==◌, ◌&&◌, ℕ, zero, suc, ◌+◌, ◌<◌, ◌≤◌, Bool, true, false, true≢false, List, [], ◌∷◌, length, get_or, refl, sym, ap, ◌∙◌, subst, arith, Option, Some, None, inl, inr, MatchBool}
-use Rattle.std.specs.Prelude.{slice_get, unwrap_or}
-use Rattle.std.proofs.lemmas.Bool.{cases_eq, eqb-true, eqb-false}
+use Rattle.std.proofs.Common.{◌≡◌, ◌==◌, ◌&&◌, ℕ, ◌<◌, Bool, true, false, true≢false, List, [], ◌∷◌, length, get_or, refl, sym, ap, ◌∙◌, subst, arith, Option, Some, None, MatchBool}
+use Rattle.std.specs.Prelude.{slice_get}
+use Rattle.std.proofs.lemmas.Bool.{eqb-true, eqb-false}
 use Rattle.std.proofs.lemmas.Option.{slice_get-get_or}
-use Rattle.ssa_core.specs.Walks.{Walk, Edge}
 use Rattle.firm_rules.specs.declared.node.NodeId.{NodeId}
 use Rattle.firm_rules.specs.declared.node.FirmEnd.{FirmEnd}
-use Rattle.firm_rules.specs.declared.node.FirmEnd.TheVariants.{Jump, Branch, Return}
-use Rattle.firm_rules.specs.Graphs.{FirmNode, Firm, acts, operands_of}
-use Rattle.firm_rules.specs.Lookups.{IsBlock, preds_of, end_of, node_at}
-use Rattle.firm_rules.specs.Rules.{ComesTo, memory_into, memory_after, memory_phi, is_memory_phi, giver, chain, last_of, first_node, MemoryFits}
+use Rattle.firm_rules.specs.declared.node.FirmEnd.TheVariants.{Return}
+use Rattle.firm_rules.specs.Graphs.{FirmNode, Firm, acts}
+use Rattle.firm_rules.specs.Lookups.{preds_of, end_of}
+use Rattle.firm_rules.specs.Rules.{memory_into, memory_after, memory_phi, is_memory_phi, giver, chain, last_of, MemoryFits}
 use Rattle.firm_tables.specs.Nodes.{node_of}
 use Rattle.firm_tables.proofs.NodeLaws.{matches}
 use Rattle.firm_nodes.specs.Calls.{IsNode}
@@ -17,9 +16,9 @@ use Rattle.firm_verify.specs.declared.coming.Coming.{Coming}
 use Rattle.firm_verify.specs.declared.coming.Coming.TheVariants.{Nothing, One, Many}
 use Rattle.firm_verify.specs.declared.chains.Chains.{Chains}
 use Rattle.firm_verify.specs.Broken.{Rule1}
-use Rattle.firm_verify.specs.Memory.{AreChains, Brings, Leaves, Told, Covers, through, fits, coming_at, leaving, AreComing, BringsOnly, LeavesOnly, FirstTakes, EachTakes, PhiTakes, ReturnTakes, taken_by}
+use Rattle.firm_verify.specs.Memory.{AreChains, Brings, Leaves, Told, Covers, fits, coming_at, leaving, AreComing, BringsOnly, LeavesOnly, FirstTakes, EachTakes, PhiTakes, ReturnTakes, taken_by}
 use Rattle.firm_verify.proofs.PhiLaws.{decides}
-use Rattle.firm_verify.proofs.GraphLaws.{node_read, node_seen, node_stands}
+use Rattle.firm_verify.proofs.GraphLaws.{node_read, node_seen}
 use Rattle.firm_verify.proofs.CountsLaws.{got}
 use Rattle.firm_verify.proofs.ChainLaws.{Acting, acting, chain_acts, first_passes}
 use Rattle.firm_verify.proofs.MemoryLaws.{acts_there}

@@ -8,7 +8,7 @@ use Rattle.firm_rules.specs.declared.node.FirmEnd.TheVariants.{Return}
 use Rattle.firm_rules.specs.Graphs.{FirmNode, Firm, acts}
 use Rattle.firm_rules.specs.Lookups.{node_at, preds_of, end_of, first_of}
 use Rattle.ssa_core.specs.Walks.{Walk}
-use Rattle.firm_rules.specs.Rules.{giver, giver_in, acts_in, is_memory_phi, memory_phi, memory_into, memory_after, first_node, takes_from, chain, last_of, ComesTo, MemoryFits}
+use Rattle.firm_rules.specs.Rules.{giver, acts_in, is_memory_phi, memory_phi, memory_into, memory_after, chain, last_of, ComesTo, MemoryFits}
 use Rattle.firm_tables.specs.Nodes.{node_of}
 use Rattle.firm_nodes.specs.Calls.{IsNode}
 use Rattle.firm_verify.specs.declared.coming.Coming.{Coming}
@@ -36,10 +36,6 @@ key g MemoryPhi node = if is_memory_phi node.op then Some node.block else None
 
 abbrev pub HasKey : Firm → Sort → ℕ → ℕ → Type 0
 HasKey g sort n k = IsNode g n × (key g sort (node_of g.nodes n) ≡ Some k)
-
--- no two have one key
-abbrev pub AllAlone : Firm → Sort → Type 0
-AllAlone g sort = (n m k : ℕ) → HasKey g sort n k → HasKey g sort m k → n ≡ m
 
 -- another one has its key
 pub record IsRival (g : Firm) (sort : Sort) (n : ℕ) : Type 0 where

@@ -1,8 +1,8 @@
-use Rattle.std.proofs.Common.{◌≡◌, ◌+◌, true≢false, take, sym, ap, ◌∙◌, subst}
+use Rattle.std.proofs.Common.{◌+◌, true≢false, take, sym, ap, ◌∙◌, subst}
 use Rattle.firm_rules.specs.Rules.{is_start}
 use Rattle.firm_tables.specs.Nodes.{numbers}
 use Rattle.firm_verify.proofs.GraphLaws.{node_listed}
-use Rattle.firm_verify.proofs.LastLaws.{IsLowest, lowest_more, lowest_pass, no_lowest, start_is}
+use Rattle.firm_verify.proofs.LastLaws.{IsLowest, lowest_more, lowest_pass, start_is}
 use Rattle.firm_verify.proofs.chains.first_start.Goals as goal
 use Rattle.firm_verify.proofs.chains.first_start.Goals.{then-is_start+then-is_lower, then-is_start+else-is_lower, else-is_start}
 

@@ -1,6 +1,6 @@
 use Rattle.std.proofs.Common.{get_or, ap, ◌∙◌, None}
 use Rattle.firm_verify.proofs.DefinedLaws.{operands_there}
-use Rattle.firm_verify.proofs.TakesLaws.{phi_there, phi_by}
+use Rattle.firm_verify.proofs.TakesLaws.{phi_there}
 use Rattle.firm_verify.proofs.takes.phi_takes.Goals as goal
 
 pub operands-requires : goal.operands-requires
