@@ -69,6 +69,19 @@ first_only g test n p alone =
     let found = first_there g test n p in
     found.1 ∙ ap Some (alone found.0 (first_passes g test found.0 found.1))
 
+-- the lowest one that passes
+pub first_lowest : (g : Firm) (test : FirmNode → Bool) (n : ℕ) → Passes g test n → ((m : ℕ) → Passes g test m → n ≤ m) → first_node g test ≡ Some n
+first_lowest g test n p lowest =
+    let at = there_at g.nodes n p.node p.is in
+    let q : FirmNode → Bool = λ node. node.there && test node in
+    let before = placed_before q g.nodes n p.node at.0 (and_from p.node.there (test p.node) at.1 p.passed) in
+    let place = position_or_len q g.nodes in
+    let found : first_node g test ≡ Some place = ap (λ t. cond t (Some place) None) (lt-ltb place (length g.nodes) (omega (arith, before.0, before.1))) in
+    found ∙ ap Some (equal place n before.0 (lowest place (first_passes g test place found)))
+  where
+    equal : (m n : ℕ) → m ≤ n → n ≤ m → m ≡ n
+    equal m n a c = omega (arith, a, c)
+
 pub first_none : (g : Firm) (test : FirmNode → Bool) → ((m : ℕ) → Passes g test m → ⊥) → first_node g test ≡ None
 first_none g test none = by (first_node g test) refl
   where
@@ -137,11 +150,11 @@ module _ (g : Firm) (b : ℕ) where
   abbrev pub follows : ℕ → FirmNode → Bool
   follows n node = acts_in b (Some node) && takes_from g (λ m. m == n) node.operands
 
-  chain_first : (limit : ℕ) (next : Option ℕ) → slice_get (chain_from g b (suc limit) next) 0 ≡ next
+  pub chain_first : (limit : ℕ) (next : Option ℕ) → slice_get (chain_from g b (suc limit) next) 0 ≡ next
   chain_first limit None = refl
   chain_first limit (Some n) = refl
 
-  chain_next : (limit : ℕ) (next : Option ℕ) (i p : ℕ) → slice_get (chain_from g b limit next) i ≡ Some p → suc i < limit → slice_get (chain_from g b limit next) (suc i) ≡ first_node g (follows p)
+  pub chain_next : (limit : ℕ) (next : Option ℕ) (i p : ℕ) → slice_get (chain_from g b limit next) i ≡ Some p → suc i < limit → slice_get (chain_from g b limit next) (suc i) ≡ first_node g (follows p)
   chain_next zero next i p at h = absurd (omega (arith, h))
   chain_next (suc limit) None i p at h = absurd (cc)
   chain_next (suc zero) (Some n) i p at h = absurd (omega (arith, h))
@@ -149,7 +162,7 @@ module _ (g : Firm) (b : ℕ) where
   chain_next (suc (suc limit)) (Some n) (suc i) p at h = chain_next (suc limit) (first_node g (follows n)) i p at (omega (arith, h))
 
   -- a later node of a chain follows the one before
-  chain_step : (limit : ℕ) (next : Option ℕ) (i n : ℕ) → slice_get (chain_from g b limit next) (suc i) ≡ Some n
+  pub chain_step : (limit : ℕ) (next : Option ℕ) (i n : ℕ) → slice_get (chain_from g b limit next) (suc i) ≡ Some n
       → (q : ℕ) × ((slice_get (chain_from g b limit next) i ≡ Some q) × (first_node g (follows q) ≡ Some n))
   chain_step zero next i n at = absurd (cc)
   chain_step (suc limit) None i n at = absurd (cc)
@@ -157,13 +170,22 @@ module _ (g : Firm) (b : ℕ) where
   chain_step (suc (suc limit)) (Some m) zero n at = (m, (refl, sym (chain_first limit (first_node g (follows m))) ∙ at))
   chain_step (suc (suc limit)) (Some m) (suc i) n at = chain_step (suc limit) (first_node g (follows m)) i n at
 
-  chain_head : (limit : ℕ) (next : Option ℕ) (n : ℕ) → slice_get (chain_from g b limit next) 0 ≡ Some n → next ≡ Some n
+  -- after a node that none follows the chain ends
+  pub chain_stop : (limit : ℕ) (next : Option ℕ) (i p : ℕ) → slice_get (chain_from g b limit next) i ≡ Some p → first_node g (follows p) ≡ None → slice_get (chain_from g b limit next) (suc i) ≡ None
+  chain_stop zero next i p at none = absurd (cc)
+  chain_stop (suc limit) None i p at none = absurd (cc)
+  chain_stop (suc zero) (Some n) i p at none = refl
+  chain_stop (suc (suc limit)) (Some n) zero p at none =
+      chain_first limit (first_node g (follows n)) ∙ ap (λ k. first_node g (follows k)) (ap (λ o. elim o [ Some z ↦ z | None ↦ n ]) at) ∙ none
+  chain_stop (suc (suc limit)) (Some n) (suc i) p at none = chain_stop (suc limit) (first_node g (follows n)) i p at none
+
+  pub chain_head : (limit : ℕ) (next : Option ℕ) (n : ℕ) → slice_get (chain_from g b limit next) 0 ≡ Some n → next ≡ Some n
   chain_head zero next n at = absurd (cc)
   chain_head (suc limit) next n at = sym (chain_first limit next) ∙ at
 
 -- ---- what a node takes its memory from
 
-leads_trans : (g : Firm) (n m x : ℕ) → Leads g n m → Leads g m x → Leads g n x
+pub leads_trans : (g : Firm) (n m x : ℕ) → Leads g n m → Leads g m x → Leads g n x
 leads_trans g n m x (at_once is) rest = onward m is rest
 leads_trans g n m x (onward next is more) rest = onward next is (leads_trans g next m x more rest)
 
@@ -205,7 +227,7 @@ pub record NoRivals (g : Firm) (b : ℕ) : Type 0 where
   pub one_follows : (n m : ℕ) → Acts g b n → Acts g b m → Acts g b (taken g b n) → taken g b n ≡ taken g b m → n ≡ m
 
 module _ (g : Firm) (b : ℕ) (rule1 : Rule1 g) where
-  record Acting (n : ℕ) : Type 0 where
+  pub record Acting (n : ℕ) : Type 0 where
     pub node : FirmNode
     pub is : node_at g n ≡ Some node
     pub is_node : IsNode g n
@@ -214,7 +236,7 @@ module _ (g : Firm) (b : ℕ) (rule1 : Rule1 g) where
     pub leads : Leads g n (taken g b n)
     pub below : n < length g.nodes
 
-  acting : (n : ℕ) → Acts g b n → Acting n
+  pub acting : (n : ℕ) → Acts g b n → Acting n
   acting n a =
       let found = acts_some b (node_at g n) a in
       let node = found.0 in
@@ -242,7 +264,7 @@ module _ (g : Firm) (b : ℕ) (rule1 : Rule1 g) where
       let at = acting n a in
       takes_is g test at.node.operands at.some ∙ ap (λ k. test (giver g k)) (sym at.head)
 
-  passes_by : (n : ℕ) (a : Acts g b n) (test : ℕ → Bool) → test (taken g b n) ≡ true → Passes g (λ node. acts_in b (Some node) && takes_from g test node.operands) n
+  pub passes_by : (n : ℕ) (a : Acts g b n) (test : ℕ → Bool) → test (taken g b n) ≡ true → Passes g (λ node. acts_in b (Some node) && takes_from g test node.operands) n
   passes_by n a test e =
       let at = acting n a in
       record {
@@ -251,7 +273,7 @@ module _ (g : Firm) (b : ℕ) (rule1 : Rule1 g) where
         passed = and_from (acts_in b (Some at.node)) (takes_from g test at.node.operands) (ap (acts_in b) (sym at.is) ∙ a) (takes_taken n a test ∙ e);
       }
 
-  by_passes : (n : ℕ) (test : ℕ → Bool) → Passes g (λ node. acts_in b (Some node) && takes_from g test node.operands) n → Acts g b n × (test (taken g b n) ≡ true)
+  pub by_passes : (n : ℕ) (test : ℕ → Bool) → Passes g (λ node. acts_in b (Some node) && takes_from g test node.operands) n → Acts g b n × (test (taken g b n) ≡ true)
   by_passes n test p =
       let parts = and_parts (acts_in b (Some p.node)) (takes_from g test p.node.operands) p.passed in
       let a : Acts g b n = ap (acts_in b) p.is ∙ parts.0 in
@@ -266,7 +288,7 @@ module _ (g : Firm) (b : ℕ) (rule1 : Rule1 g) where
   not_is true n e = true≢false (sym n)
   not_is false n e = true≢false (sym e)
 
-  begins_first : NoRivals g b → (n : ℕ) → Acts g b n → (Acts g b (taken g b n) → ⊥) → first_node g (begins g b) ≡ Some n
+  pub begins_first : NoRivals g b → (n : ℕ) → Acts g b n → (Acts g b (taken g b n) → ⊥) → first_node g (begins g b) ≡ Some n
   begins_first none n a head =
       first_only g (begins g b) n (passes_by n a (λ m. not (acts_in b (node_at g m))) (is_not (acts_in b (node_at g (taken g b n))) head))
       (λ m p.
@@ -286,7 +308,7 @@ module _ (g : Firm) (b : ℕ) (rule1 : Rule1 g) where
     pub early : index + bound < length g.nodes
     pub at : slice_get (chain g b) index ≡ Some n
 
-  chain_begins : 0 < length g.nodes → slice_get (chain g b) 0 ≡ first_node g (begins g b)
+  pub chain_begins : 0 < length g.nodes → slice_get (chain g b) 0 ≡ first_node g (begins g b)
   chain_begins h = by (length g.nodes) h
     where
       by : (limit : ℕ) → 0 < limit → slice_get (chain_from g b limit (first_node g (begins g b))) 0 ≡ first_node g (begins g b)
@@ -360,6 +382,19 @@ module _ (g : Firm) (b : ℕ) (rule1 : Rule1 g) where
       let found = reach_by acyclic none (suc (length g.nodes)) n [] (omega arith) (λ x h. absurd (omega (arith, h))) (λ x. omega arith) a in
       (found.index, found.at)
 
+  in_chain : (limit : ℕ) (next : Option ℕ) (i q : ℕ) → ((k : ℕ) → next ≡ Some k → Acts g b k) → slice_get (chain_from g b limit next) i ≡ Some q → Acts g b q
+  in_chain limit next zero q head at = head q (chain_head g b limit next q at)
+  in_chain limit next (suc i) q head at =
+      let step = chain_step g b limit next i q at in
+      (by_passes q (λ m. m == step.0) (first_passes g (follows g b step.0) q step.1.1)).0
+
+  begins_act : (k : ℕ) → first_node g (begins g b) ≡ Some k → Acts g b k
+  begins_act k e = (by_passes k (λ m. not (acts_in b (node_at g m))) (first_passes g (begins g b) k e)).0
+
+  -- each node of the chain acts
+  pub chain_acts : (i n : ℕ) → slice_get (chain g b) i ≡ Some n → Acts g b n
+  chain_acts i n at = in_chain (length g.nodes) (first_node g (begins g b)) i n begins_act at
+
   -- and where the chain has each of them, there are no rivals
   pub no_rivals : ((n : ℕ) → Acts g b n → (index : ℕ) × (slice_get (chain g b) index ≡ Some n)) → NoRivals g b
   no_rivals all = record {
@@ -371,15 +406,6 @@ module _ (g : Firm) (b : ℕ) (rule1 : Rule1 g) where
     where
       same_some : (n m : ℕ) → Some n ≡ Some m → n ≡ m
       same_some n m e = ap (λ o. elim o [ Some x ↦ x | None ↦ n ]) e
-
-      in_chain : (limit : ℕ) (next : Option ℕ) (i q : ℕ) → ((k : ℕ) → next ≡ Some k → Acts g b k) → slice_get (chain_from g b limit next) i ≡ Some q → Acts g b q
-      in_chain limit next zero q head at = head q (chain_head g b limit next q at)
-      in_chain limit next (suc i) q head at =
-          let step = chain_step g b limit next i q at in
-          (by_passes q (λ m. m == step.0) (first_passes g (follows g b step.0) q step.1.1)).0
-
-      begins_act : (k : ℕ) → first_node g (begins g b) ≡ Some k → Acts g b k
-      begins_act k e = (by_passes k (λ m. not (acts_in b (node_at g m))) (first_passes g (begins g b) k e)).0
 
       head_at : (n i : ℕ) → slice_get (chain g b) i ≡ Some n → (Acts g b (taken g b n) → ⊥) → first_node g (begins g b) ≡ Some n
       head_at n zero at head = chain_head g b (length g.nodes) (first_node g (begins g b)) n at
@@ -396,3 +422,44 @@ module _ (g : Firm) (b : ℕ) (rule1 : Rule1 g) where
           let step = chain_step g b (length g.nodes) (first_node g (begins g b)) i n at in
           let takes = (by_passes n (λ m. m == step.0) (first_passes g (follows g b step.0) n step.1.1)).1 in
           ap (λ k. first_node g (follows g b k)) (eqb-true (taken g b n) step.0 takes) ∙ step.1.1
+
+  -- going on from node to node, one comes to a node that none follows
+  last_by : Rule3 g → (fuel n : ℕ) (before : List ℕ) → length before + fuel ≡ suc (length g.nodes) → ((x : ℕ) → 0 < times x before → (x < length g.nodes) × Leads g n x)
+      → ((x : ℕ) → times x before ≤ 1) → Acts g b n → (m : ℕ) × (Acts g b m × (first_node g (follows g b m) ≡ None))
+  last_by acyclic zero n before e led once a = absurd (omega (arith, e, few (length g.nodes) before (λ x h. (led x h).0) once))
+  last_by acyclic (suc fuel) n before e led once a = by (first_node g (follows g b n)) refl (last_by acyclic fuel)
+    where
+      at : Acting n
+      at = acting n a
+
+      fresh : times n before ≡ 0
+      fresh = elim (cases_lt 0 (times n before)) [
+        | inl lt ↦ absurd (acyclic n at.node at.is (led n lt).1)
+        | inr le ↦ omega (arith, le)
+      ]
+
+      once_more : (x : ℕ) → times x (n ∷ before) ≤ 1
+      once_more x = elim (cases_eq n x) [
+        | inl same ↦ omega (arith, one_same x, fresh, ap (λ k. times k before) (sym same), ap (λ k. one x k) same)
+        | inr ne ↦ omega (arith, one_other x n ne, once x)
+      ]
+
+      led_more : (k : ℕ) → Leads g k n → (x : ℕ) → 0 < times x (n ∷ before) → (x < length g.nodes) × Leads g k x
+      led_more k leads x h = elim (cases_eq n x) [
+        | inl same ↦ (subst (λ i. i < length g.nodes) same at.below, subst (Leads g k) same leads)
+        | inr ne ↦
+            let more = led x (omega (arith, h, one_other x n ne)) in
+            (more.0, leads_trans g k n x leads more.1)
+      ]
+
+      by : (next : Option ℕ) → first_node g (follows g b n) ≡ next
+          → ((k : ℕ) (passed : List ℕ) → length passed + fuel ≡ suc (length g.nodes) → ((x : ℕ) → 0 < times x passed → (x < length g.nodes) × Leads g k x)
+          → ((x : ℕ) → times x passed ≤ 1) → Acts g b k → (m : ℕ) × (Acts g b m × (first_node g (follows g b m) ≡ None)))
+          → (m : ℕ) × (Acts g b m × (first_node g (follows g b m) ≡ None))
+      by None is on = (n, (a, is))
+      by (Some k) is on =
+          let step = by_passes k (λ m. m == n) (first_passes g (follows g b n) k is) in
+          on k (n ∷ before) (omega (arith, e)) (led_more k (subst (Leads g k) (eqb-true (taken g b k) n step.1) (acting k step.0).leads)) once_more step.0
+
+  pub some_last : Rule3 g → (n : ℕ) → Acts g b n → (m : ℕ) × (Acts g b m × (first_node g (follows g b m) ≡ None))
+  some_last acyclic n a = last_by acyclic (suc (length g.nodes)) n [] (omega arith) (λ x h. absurd (omega (arith, h))) (λ x. omega arith) a

@@ -13,3 +13,6 @@ pub mod ChainLaws
 pub mod ObeyLaws
 pub mod RivalLaws
 pub mod MemoryLaws
+pub mod LastLaws
+pub mod ComingLaws
+pub mod TakesLaws

@@ -19,14 +19,14 @@ use Rattle.firm_tables.proofs.MemberLaws.{number_at, numbers_long}
 use Rattle.firm_nodes.specs.Calls.{IsNode}
 use Rattle.firm_verify.specs.declared.memory.Sort.{Sort}
 use Rattle.firm_verify.specs.Tables.{AreNodes}
-use Rattle.firm_verify.specs.Memory.{is_memory_of, key, HasKey, AllAlone, IsRival}
+use Rattle.firm_verify.specs.Memory.{is_memory_of, key, HasKey, AreOwners, IsRival}
 
 -- of some nodes, each is the owner of its key, and each owner has the key
-pub record AreOwners (g : Firm) (sort : Sort) (nodes : List ℕ) (owners : List (Option ℕ)) : Type 0 where
+pub record OwnersOf (g : Firm) (sort : Sort) (nodes : List ℕ) (owners : List (Option ℕ)) : Type 0 where
   pub own : (n k : ℕ) → 0 < times n nodes → HasKey g sort n k → get_or owners k None ≡ Some n
   pub have : (n k : ℕ) → get_or owners k None ≡ Some n → HasKey g sort n k
 
-pub no_owners : (g : Firm) (sort : Sort) (owners : List (Option ℕ)) → owners ≡ [] → AreOwners g sort [] owners
+pub no_owners : (g : Firm) (sort : Sort) (owners : List (Option ℕ)) → owners ≡ [] → OwnersOf g sort [] owners
 no_owners g sort owners e = record {
   own = λ n k h. absurd (omega (arith, h));
   have = λ n k h. absurd (none_some n (sym (ap (λ l. get_or l k None) e) ∙ h));
@@ -35,7 +35,7 @@ no_owners g sort owners e = record {
     none_some : (n : ℕ) → None ≡ Some n → ⊥
     none_some n e = cc
 
-front : (x : ℕ) (nodes : List NodeId) (at : ℕ) (d : NodeId) → at < length nodes → 0 < times x (take (at + 1) (numbers nodes)) → (x ≡ (get_or nodes at d).number) ⊎ (0 < times x (take at (numbers nodes)))
+pub front : (x : ℕ) (nodes : List NodeId) (at : ℕ) (d : NodeId) → at < length nodes → 0 < times x (take (at + 1) (numbers nodes)) → (x ≡ (get_or nodes at d).number) ⊎ (0 < times x (take at (numbers nodes)))
 front x nodes at d h some = elim (cases_eq (get_or (numbers nodes) at 0) x) [
   | inl same ↦ inl (sym same ∙ number_at nodes at d h)
   | inr ne ↦ inr (omega (arith, some, more, one_other x (get_or (numbers nodes) at 0) ne))
@@ -47,7 +47,7 @@ front x nodes at d h some = elim (cases_eq (get_or (numbers nodes) at 0) x) [
   more = ap (λ k. times x (take k (numbers nodes))) (suc_add at) ∙ times_front x (numbers nodes) at 0 (omega (arith, h, numbers_long nodes))
 
 pub owners_pass : (g : Firm) (sort : Sort) (nodes : List NodeId) (at : ℕ) (d : NodeId) (owners : List (Option ℕ)) → at < length nodes → key g sort (node_of g.nodes (get_or nodes at d).number) ≡ None
-    → AreOwners g sort (take at (numbers nodes)) owners → AreOwners g sort (take (at + 1) (numbers nodes)) owners
+    → OwnersOf g sort (take at (numbers nodes)) owners → OwnersOf g sort (take (at + 1) (numbers nodes)) owners
 owners_pass g sort nodes at d owners h none o = record {
   own = λ n k listed has. elim (front n nodes at d h listed) [
     | inl same ↦ absurd (none_some k (sym none ∙ ap (λ x. key g sort (node_of g.nodes x)) (sym same) ∙ has.1))
@@ -61,7 +61,7 @@ owners_pass g sort nodes at d owners h none o = record {
 
 pub owners_more : (g : Firm) (sort : Sort) (nodes : List NodeId) (at : ℕ) (d : NodeId) (owners after : List (Option ℕ)) (k : ℕ) → at < length nodes → HasKey g sort (get_or nodes at d).number k
     → ((other : ℕ) → get_or owners k None ≡ Some other → other ≡ (get_or nodes at d).number) → get_or after k None ≡ Some (get_or nodes at d).number
-    → ((other : ℕ) → other ≢ k → get_or after other None ≡ get_or owners other None) → AreOwners g sort (take at (numbers nodes)) owners → AreOwners g sort (take (at + 1) (numbers nodes)) after
+    → ((other : ℕ) → other ≢ k → get_or after other None ≡ get_or owners other None) → OwnersOf g sort (take at (numbers nodes)) owners → OwnersOf g sort (take (at + 1) (numbers nodes)) after
 owners_more g sort nodes at d owners after k h has same this others o = record {
   own = λ n j listed has_n. elim (cases_eq j k) [
     | inl key_same ↦ ap (λ i. get_or after i None) key_same ∙ this ∙ ap Some (elim (front n nodes at d h listed) [
@@ -84,17 +84,14 @@ owners_more g sort nodes at d owners after k h has same this others o = record {
     some_same : (n m : ℕ) → Some n ≡ Some m → n ≡ m
     some_same n m e = cc
 
-pub all_alone : (g : Firm) (sort : Sort) (nodes : List NodeId) (at : ℕ) (owners : List (Option ℕ)) → AreNodes g (numbers nodes) → length nodes ≤ at
-    → AreOwners g sort (take at (numbers nodes)) owners → AllAlone g sort
-all_alone g sort nodes at owners a h o n m k hn hm = some_same n m (sym (owns n hn) ∙ owns m hm)
-  where
-    some_same : (x y : ℕ) → Some x ≡ Some y → x ≡ y
-    some_same x y e = cc
+pub owners_all : (g : Firm) (sort : Sort) (nodes : List NodeId) (at : ℕ) (owners : List (Option ℕ)) → AreNodes g (numbers nodes) → length nodes ≤ at
+    → OwnersOf g sort (take at (numbers nodes)) owners → AreOwners g sort owners
+owners_all g sort nodes at owners a h o = record {
+  own = λ x k has. o.own x k (subst (λ l. 0 < times x l) (sym (take_all at (numbers nodes) (omega (arith, h, numbers_long nodes)))) (a.all x has.0)) has;
+  have = o.have;
+}
 
-    owns : (x : ℕ) → HasKey g sort x k → get_or owners k None ≡ Some x
-    owns x has = o.own x k (subst (λ l. 0 < times x l) (sym (take_all at (numbers nodes) (omega (arith, h, numbers_long nodes)))) (a.all x has.0)) has
-
-pub rival_found : (g : Firm) (sort : Sort) (nodes : List ℕ) (owners : List (Option ℕ)) (n k other : ℕ) → AreOwners g sort nodes owners → HasKey g sort n k → get_or owners k None ≡ Some other → other ≢ n
+pub rival_found : (g : Firm) (sort : Sort) (nodes : List ℕ) (owners : List (Option ℕ)) (n k other : ℕ) → OwnersOf g sort nodes owners → HasKey g sort n k → get_or owners k None ≡ Some other → other ≢ n
     → IsRival g sort n
 rival_found g sort nodes owners n k other o has e ne = record { other = other; differs = ne; key_is = k; own = has; others = o.have other k e }
 
@@ -135,21 +132,19 @@ own_giver : (o : NodeOp) (l : List ℕ) (m : ℕ) → is_memory_of o ≡ false �
 own_giver ProjM l m e = absurd (true≢false e)
 own_giver o l m e = refl
 
-pub giver_self : (g : Firm) (m n : ℕ) (op : NodeOp) (operands : List ℕ) → IsNode g m → op ≡ (node_of g.nodes m).op → is_memory_of op ≡ false → operands ≡ (node_of g.nodes n).operands → m ≡ get_or operands 0 0
-    → m ≡ giver g (get_or (node_of g.nodes n).operands 0 0)
-giver_self g m n op operands node eo part e is =
+pub giver_self : (g : Firm) (m : ℕ) (op : NodeOp) → IsNode g m → op ≡ (node_of g.nodes m).op → is_memory_of op ≡ false → m ≡ giver g m
+giver_self g m op node eo part =
     sym (own_giver (node_of g.nodes m).op (node_of g.nodes m).operands m (ap is_memory_of (sym eo) ∙ part)) ∙ sym (ap (λ o. giver_in o m) (node_seen g m node))
-    ∙ ap (giver g) (is ∙ ap (λ l. get_or l 0 0) e)
 
 tuple_giver : (l : List ℕ) (m : ℕ) → 0 < length l → giver_by ProjM l m ≡ get_or l 0 0
 tuple_giver [] m h = absurd (omega (arith, h))
 tuple_giver (x ∷ l) m h = refl
 
-pub giver_tuple : (g : Firm) (m n : ℕ) (op : NodeOp) (operands list : List ℕ) → IsNode g m → op ≡ (node_of g.nodes m).op → is_memory_of op ≡ true → operands ≡ (node_of g.nodes n).operands
-    → m ≡ get_or operands 0 0 → list ≡ (node_of g.nodes m).operands → 0 < length list → get_or list 0 0 ≡ giver g (get_or (node_of g.nodes n).operands 0 0)
-giver_tuple g m n op operands list node eo part e is el long =
+pub giver_tuple : (g : Firm) (m : ℕ) (op : NodeOp) (list : List ℕ) → IsNode g m → op ≡ (node_of g.nodes m).op → is_memory_of op ≡ true → list ≡ (node_of g.nodes m).operands → 0 < length list
+    → get_or list 0 0 ≡ giver g m
+giver_tuple g m op list node eo part el long =
     sym (tuple_giver list m long) ∙ ap (λ l. giver_by ProjM l m) el ∙ ap (λ o. giver_by o (node_of g.nodes m).operands m) (sym (sym eo ∙ is_part op part))
-    ∙ sym (ap (λ o. giver_in o m) (node_seen g m node)) ∙ ap (giver g) (is ∙ ap (λ l. get_or l 0 0) e)
+    ∙ sym (ap (λ o. giver_in o m) (node_seen g m node))
 
 -- ---- by the answer of a test
 
@@ -159,7 +154,7 @@ Other owners k own = (other : ℕ) × ((get_or owners k None ≡ Some other) × 
 abbrev pub NoOther : List (Option ℕ) → ℕ → ℕ → Type 0
 NoOther owners k own = (other : ℕ) → get_or owners k None ≡ Some other → other ≡ own
 
-pub rival_by : (g : Firm) (sort : Sort) (nodes : List NodeId) (at n k : ℕ) (owners seen : List (Option ℕ)) (answer : Bool) → AreOwners g sort (take at (numbers nodes)) owners → IsNode g n
+pub rival_by : (g : Firm) (sort : Sort) (nodes : List NodeId) (at n k : ℕ) (owners seen : List (Option ℕ)) (answer : Bool) → OwnersOf g sort (take at (numbers nodes)) owners → IsNode g n
     → key g sort (node_of g.nodes n) ≡ Some k → seen ≡ owners → answer ≡ true → MatchBool answer (Other seen k n) (NoOther seen k n) → IsRival g sort n
 rival_by g sort nodes at n k owners seen true o node has same e m =
     rival_found g sort (take at (numbers nodes)) owners n k m.0 o (node, has) (ap (λ l. get_or l k None) (sym same) ∙ m.1.0) m.1.1

@@ -60,11 +60,12 @@ pub data IsBroken (g : Firm) : ℕ → Option NodeId → ℕ → Type 0 where
   end_use : {b : ℕ} → IsBlock g b → (EndDefined g b → ⊥) → IsBroken g 7 None b
   edges : {b : ℕ} → IsBlock g b → (EdgesFit g b → ⊥) → IsBroken g 8 None b
 
--- the rules below this one hold, that on memory aside
+-- the rules below this one hold
 pub record HoldBelow (g : Firm) (rule : ℕ) : Type 0 where
   pub rule1 : 1 < rule → Rule1 g
   pub rule2 : 2 < rule → Rule2 g
   pub rule3 : 3 < rule → Rule3 g
+  pub rule4 : 4 < rule → Rule4 g
   pub rule5 : 5 < rule → Rule5 g
   pub rule6 : 6 < rule → Rule6 g
   pub rule7 : 7 < rule → Rule7 g
@@ -79,9 +80,10 @@ pub record HoldAtNodes (g : Firm) : Type 0 where
   pub rule2 : Rule2 g
   pub rule3 : Rule3 g
 
--- all rules but that on memory
-pub record HoldOthers (g : Firm) : Type 0 where
+-- all rules
+pub record HoldAll (g : Firm) : Type 0 where
   pub at_nodes : HoldAtNodes g
+  pub rule4 : Rule4 g
   pub rule5 : Rule5 g
   pub rule6 : Rule6 g
   pub rule7 : Rule7 g

@@ -109,7 +109,7 @@ fn count_phis(graph: &Graph, nodes: &[NodeId], block: BlockId) -> usize
     count
 }
 
-fn is_start(op: NodeOp) -> bool
+pub(crate) fn is_start(op: NodeOp) -> bool
     ensures { result ≡ op_is_start op }
 {
     matches!(op, NodeOp::Start)

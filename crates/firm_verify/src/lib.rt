@@ -8,12 +8,18 @@
 // nearest one that is above all its earlier predecessors: where the rules on the order and on loops hold, each walk to a block visits
 // exactly what is above it.
 //
+// Memory: by the node whose memory it takes, each node that acts follows another one or begins the chain of its block; where each of
+// these is alone, the nodes of a block form one chain. Then it is told of each block which memory comes there along walks: none, that
+// of one node, or more than one. This is found by looks at all blocks in their order, each taking what the predecessors bring, until one
+// finds nothing new; as each block is told at most twice more, the looks end, and in a graph that building made they are few. What takes
+// memory is then compared with what comes. So nothing is asked where nothing takes it.
+//
 // The invariant: of the search for cycles, each way from a node that is ended ends at a Phi or at a node without operands, and the
 // others stand on the path, each an operand of the one before. Of the tree, what is above a block is above each earlier predecessor.
+// Of the memory that comes to a block, each that is told comes along some walk.
 //
-// The theorem, on `verify`: what is found is broken there, and the rules before it hold; where nothing is found, all rules hold. The
-// fourth rule, that on memory, is not tested yet, and is left out of both. `rules_are_all`: the eight rules together are what a graph
-// obeys.
+// The theorem, on `verify`: what is found is broken there, and the rules before it hold; where nothing is found, the graph obeys all
+// rules. `rules_are_all`: the eight rules, as they are tested, together are what a graph obeys, and one that is broken contradicts that.
 //
 // Source: Braun, Buchwald and Zwinkau, Firm: A Graph-Based Intermediate Representation (2011); the tree is that of Cooper, Harvey and
 // Kennedy, A Simple, Fast Dominance Algorithm (2001), which is exact after one pass here.
@@ -21,6 +27,8 @@
 
 mod all;
 mod broken;
+mod chains;
+mod coming;
 mod counts;
 mod cycles;
 mod defined;
@@ -31,6 +39,7 @@ mod lists;
 mod loops;
 mod memory;
 mod phis;
+mod takes;
 mod tree;
 
 pub use all::verify;

@@ -57,6 +57,17 @@ pub(crate) fn rank_of(graph: &Graph, ranks: &[usize], block: usize) -> usize
     }
 }
 
+// What the table has at the index; the filler, where it has nothing.
+pub(crate) fn get_at<T: Copy>(table: &[T], index: usize, filler: T) -> T
+    ensures { result ≡ slice_index_or table.now index filler }
+{
+    if index < table.len() {
+        table[index]
+    } else {
+        filler
+    }
+}
+
 // What is not in the table stands for the filler.
 pub(crate) fn set_at<T: Copy>(
     table: &mut Vec<T>,

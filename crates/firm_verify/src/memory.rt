@@ -1,5 +1,5 @@
-// Rule 4, in part: the nodes of a block that take memory form one chain, and it has at most one Phi of memory.
-ghost use Rattle.std.specs.Prelude.{◌≡◌, ◌≢◌, ◌<◌, ℕ, true, length, if◌then◌else◌, MatchBool, slice_index, slice_index_or, Some, None, IfOk, IfSome, IfNone};
+// Rule 4: the nodes of a block that take memory form one chain, and it has at most one Phi of memory.
+ghost use Rattle.std.specs.Prelude.{[], ◌≡◌, ◌≢◌, ◌<◌, ℕ, true, length, if◌then◌else◌, MatchBool, slice_index, slice_index_or, Some, None, IfOk, IfSome, IfNone};
 ghost use Rattle.firm_rules.specs.Graphs.{acts as op_acts};
 ghost use Rattle.firm_rules.specs.Lookups.{node_at};
 ghost use Rattle.firm_rules.specs.Rules.{giver, acts_in as node_acts_in, is_memory_phi as op_is_memory_phi};
@@ -7,7 +7,8 @@ ghost use Rattle.firm_tables.specs.Nodes.{numbers, node_of};
 ghost use Rattle.firm_nodes.specs.Calls.{IsNode};
 ghost use Rattle.firm_verify.specs.Broken.{Rule1};
 ghost use Rattle.firm_verify.specs.Tables.{AreNodes};
-ghost use Rattle.firm_verify.specs.Memory.{key, is_memory_of, AllAlone, IsRival};
+ghost use Rattle.firm_verify.specs.Memory.{key, is_memory_of, IsRival, AreOwners, BreaksMemory};
+ghost use Rattle.firm_verify.specs.declared.memory.Sort.TheVariants.{Begins, Follows, MemoryPhi};
 
 use crate::lists::set_at;
 use firm_nodes::{BlockId, Graph, Mode, NodeId, NodeOp};
@@ -21,27 +22,57 @@ pub(crate) enum Sort {
     MemoryPhi,
 }
 
-// A node of the sort that is not alone.
-pub(crate) fn rival(
-    alloc: Global,
+// A node that is not alone in its sort; else the nodes of each sort by their keys.
+pub(crate) fn any_rival(
     graph: &Graph,
     nodes: &[NodeId],
-    sort: Sort,
+    firsts: &mut Vec<Option<usize>>,
+    nexts: &mut Vec<Option<usize>>,
+    phis: &mut Vec<Option<usize>>,
 ) -> Result<Option<NodeId>, AllocError>
     requires nodes { AreNodes graph.now (numbers nodes.now) }
     requires rule1 { Rule1 graph.now }
-    ensures some { IfOk result (λ found. IfSome found (λ node. IsRival graph.now sort node.number)) }
-    ensures none { IfOk result (λ found. IfNone found (AllAlone graph.now sort)) }
+    requires no_firsts { firsts.old.items ≡ [] }
+    requires no_nexts { nexts.old.items ≡ [] }
+    requires no_phis { phis.old.items ≡ [] }
+    ensures some { IfOk result (λ found. IfSome found (λ node. BreaksMemory graph.now node.number)) }
+    ensures firsts { IfOk result (λ found. IfNone found (AreOwners graph.now Begins firsts.new.items)) }
+    ensures nexts { IfOk result (λ found. IfNone found (AreOwners graph.now Follows nexts.new.items)) }
+    ensures phis { IfOk result (λ found. IfNone found (AreOwners graph.now MemoryPhi phis.new.items)) }
 {
-    let mut owners = Vec::new(alloc);
+    let begins = rival(graph, nodes, Sort::Begins, firsts)?;
+    if begins.is_some() {
+        return Ok(begins);
+    }
+    let follows = rival(graph, nodes, Sort::Follows, nexts)?;
+    if follows.is_some() {
+        return Ok(follows);
+    }
+    let doubled = rival(graph, nodes, Sort::MemoryPhi, phis)?;
+    Ok(doubled)
+}
+
+// A node of the sort that is not alone; else the nodes of the sort by their keys.
+fn rival(
+    graph: &Graph,
+    nodes: &[NodeId],
+    sort: Sort,
+    owners: &mut Vec<Option<usize>>,
+) -> Result<Option<NodeId>, AllocError>
+    requires nodes { AreNodes graph.now (numbers nodes.now) }
+    requires rule1 { Rule1 graph.now }
+    requires empty { owners.old.items ≡ [] }
+    ensures some { IfOk result (λ found. IfSome found (λ node. IsRival graph.now sort node.number)) }
+    ensures none { IfOk result (λ found. IfNone found (AreOwners graph.now sort owners.new.items)) }
+{
     for node in nodes {
         let Some(key) = key_of(graph, *node, sort) else {
             continue;
         };
-        if has_other(&owners, key, node.number) {
+        if has_other(owners, key, node.number) {
             return Ok(Some(*node));
         }
-        set_at(&mut owners, key, Some(node.number), None)?;
+        set_at(owners, key, Some(node.number), None)?;
     }
     Ok(None)
 }
@@ -92,18 +123,28 @@ fn some_if(holds: bool, key: usize) -> Option<usize>
 }
 
 // What the node takes its memory from.
-fn taken(graph: &Graph, node: NodeId) -> usize
+pub(crate) fn taken(graph: &Graph, node: NodeId) -> usize
     requires rule1 { Rule1 graph.now }
     requires node { IsNode graph.now node.number }
     requires acts { op_acts (node_of graph.now.nodes node.number).op ≡ true }
     ensures is { result ≡ giver graph.now (slice_index (node_of graph.now.nodes node.number).operands 0) }
     ensures there { IsNode graph.now result }
 {
-    let memory = graph.operands(node)[0];
-    if !is_memory_part(graph.node(NodeId { number: memory }).op) {
-        return memory;
+    giver_of(graph, graph.operands(node)[0])
+}
+
+// The node that gives the memory: of a part of a tuple, the tuple.
+pub(crate) fn giver_of(graph: &Graph, memory: usize) -> usize
+    requires rule1 { Rule1 graph.now }
+    requires memory { IsNode graph.now memory }
+    ensures is { result ≡ giver graph.now memory }
+    ensures there { IsNode graph.now result }
+{
+    let memory = NodeId { number: memory };
+    if !is_memory_part(graph.node(memory).op) {
+        return memory.number;
     }
-    graph.operands(NodeId { number: memory })[0]
+    graph.operands(memory)[0]
 }
 
 // The node acts, in the block.
@@ -115,7 +156,7 @@ fn acts_in(graph: &Graph, node: usize, block: BlockId) -> bool
     read.block.number == block.number && acts(read.op)
 }
 
-fn acts(op: NodeOp) -> bool
+pub(crate) fn acts(op: NodeOp) -> bool
     ensures { result ≡ op_acts op }
 {
     matches!(

@@ -1,10 +1,10 @@
 use Rattle.std.proofs.Common.{get_or, sym, ◌∙◌}
 use Rattle.firm_verify.proofs.GraphLaws.{node_listed}
-use Rattle.firm_verify.proofs.RivalLaws.{no_owners, owners_pass, owners_more, all_alone, rival_by, same_by}
+use Rattle.firm_verify.proofs.RivalLaws.{no_owners, owners_pass, owners_more, owners_all, rival_by, same_by}
 use Rattle.firm_verify.proofs.memory.rival.Goals as goal
 
 pub loop-node-init : goal.loop-node-init
-loop-node-init c = no_owners c.args.graph.now c.args.sort c.new-owners.result.items c.new-owners.ensures.items
+loop-node-init c = no_owners c.args.graph.now c.args.sort c.args.owners.now.items c.requires.empty
 
 pub key_of-requires-clause-node : goal.key_of-requires-clause-node
 key_of-requires-clause-node c = node_listed c.args.graph.now c.args.nodes.now c.loop-node.node-index (record { number = 0 }) c.requires.nodes c.loop-node-test.true
@@ -26,4 +26,4 @@ loop-node-preserved c =
     set_now.this set_now.others c.loop-node.invariant
 
 pub returns-clause-none : goal.returns-clause-none
-returns-clause-none c = all_alone c.args.graph.now c.args.sort c.args.nodes.now c.loop-node.node-index c.loop-node.owners.items c.requires.nodes c.loop-node-test.false c.loop-node.invariant
+returns-clause-none c = owners_all c.args.graph.now c.args.sort c.args.nodes.now c.loop-node.node-index c.loop-node.owners.items c.requires.nodes c.loop-node-test.false c.loop-node.invariant
