@@ -11,8 +11,8 @@
 // Memory: by the node whose memory it takes, each node that acts follows another one or begins the chain of its block; where each of
 // these is alone, the nodes of a block form one chain. Then it is told of each block which memory comes there along walks: none, that
 // of one node, or more than one. This is found by looks at all blocks in their order, each taking what the predecessors bring, until one
-// finds nothing new; as each block is told at most twice more, the looks end, and in a graph that building made they are few. What takes
-// memory is then compared with what comes. So nothing is asked where nothing takes it.
+// finds nothing new; no block is told of more than twice, so the looks end. What takes memory is then compared with what comes. So
+// nothing is asked where nothing takes it.
 //
 // The invariant: of the search for cycles, each way from a node that is ended ends at a Phi or at a node without operands, and the
 // others stand on the path, each an operand of the one before. Of the tree, what is above a block is above each earlier predecessor.

@@ -2,7 +2,7 @@ use Rattle.std.proofs.Common.{◌+◌, true≢false, take, sym, ap, ◌∙◌, s
 use Rattle.firm_rules.specs.Rules.{is_start}
 use Rattle.firm_tables.specs.Nodes.{numbers}
 use Rattle.firm_verify.proofs.GraphLaws.{node_listed}
-use Rattle.firm_verify.proofs.LastLaws.{IsLowest, lowest_more, lowest_pass, start_is}
+use Rattle.firm_verify.proofs.LastLaws.{IsLowest, lowest_more, no_lowest, lowest_pass, start_is}
 use Rattle.firm_verify.proofs.chains.first_start.Goals as goal
 use Rattle.firm_verify.proofs.chains.first_start.Goals.{then-is_start+then-is_lower, then-is_start+else-is_lower, else-is_start}
 
@@ -27,3 +27,6 @@ loop-node-preserved c =
 
 pub returns : goal.returns
 returns c = c.or_zero.ensures ∙ start_is c.args.graph.now c.args.nodes.now c.loop-node.node-index c.loop-node.found c.requires c.loop-node-test.false c.loop-node.invariant
+
+pub loop-node-init : goal.loop-node-init
+loop-node-init c = no_lowest c.args.graph.now

@@ -1,7 +1,7 @@
 use Rattle.std.proofs.Common.{◌+◌, take, sym, subst}
 use Rattle.firm_tables.specs.Nodes.{numbers}
 use Rattle.firm_verify.proofs.GraphLaws.{node_listed}
-use Rattle.firm_verify.proofs.LastLaws.{LastsOf, lasts_pass, lasts_more, lasts_all}
+use Rattle.firm_verify.proofs.LastLaws.{LastsOf, no_lasts, lasts_pass, lasts_more, lasts_all}
 use Rattle.firm_verify.proofs.chains.lasts_of.Goals as goal
 use Rattle.firm_verify.proofs.chains.lasts_of.Goals.{then-is_last+in_ok-set_at, else-is_last}
 
@@ -28,3 +28,6 @@ loop-node-preserved c =
 
 pub returns : goal.returns
 returns c = lasts_all c.args.graph.now c.args.nodes.now c.loop-node.node-index c.loop-node.lasts.items c.requires.nodes c.loop-node-test.false c.loop-node.invariant
+
+pub loop-node-init : goal.loop-node-init
+loop-node-init c = no_lasts c.args.graph.now c.new-lasts.result.items c.new-lasts.ensures.items

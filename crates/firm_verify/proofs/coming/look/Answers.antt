@@ -3,7 +3,7 @@ use Rattle.std.proofs.lemmas.Bool.{ltb-true, ltb-false}
 use Rattle.firm_rules.specs.Lookups.{preds_of}
 use Rattle.firm_verify.specs.Memory.{Within, Receives, coming_at, room}
 use Rattle.firm_verify.proofs.GraphLaws.{block_listed}
-use Rattle.firm_verify.proofs.ComingLaws.{moved, looked_same, looked_more, looked_all}
+use Rattle.firm_verify.proofs.ComingLaws.{moved, looked_none, looked_same, looked_more, looked_all}
 use Rattle.firm_verify.proofs.coming.look.Goals as goal
 use Rattle.firm_verify.proofs.coming.look.Goals.{then-more_comes+in_ok-set_at, else-more_comes}
 
@@ -38,3 +38,6 @@ pub returns-clause-closed : goal.returns-clause-closed
 returns-clause-closed c =
     looked_all c.args.graph.now c.args.chains.now c.args.coming.now.items c.loop-block.coming.items c.blocks-block-items.result.now c.loop-block.block-index c.loop-block.more c.blocks-block-items.ensures c.loop-block-test.false
     c.loop-block.invariant
+
+pub loop-block-init : goal.loop-block-init
+loop-block-init c = looked_none c.args.graph.now c.args.chains.now c.args.coming.now.items c.blocks-block-items.result.now c.requires.seen
