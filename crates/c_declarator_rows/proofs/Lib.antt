@@ -9,3 +9,4 @@ pub mod ArrayLaws
 pub mod FunctionRowLaws
 pub mod AgainLaws
 pub mod EnumeratorLaws
+pub mod NamingLaws

@@ -10,7 +10,8 @@
 //
 // `words` has words among specs, `said` specs together, `tags` enums and structs without a body, `enumerators` enumerators,
 // `members` members of structs, `types` names of types and parameters, `parts` names and pointers as parts of declarators,
-// `arrays` arrays and `functions` functions as such parts, `again` names that are declared again, and `answers` what rows answer.
+// `arrays` arrays and `functions` functions as such parts, `again` names that are declared again, `naming` what is
+// asked of names and of what they are, and `answers` what rows answer.
 //
 // Source: C99 6.7.
 #![tactic(auto)]
@@ -21,6 +22,7 @@ mod arrays;
 mod enumerators;
 mod functions;
 mod members;
+mod naming;
 mod parts;
 mod said;
 mod tags;
@@ -31,6 +33,7 @@ pub use arrays::array_part;
 pub use enumerators::enumerator;
 pub use functions::function_part;
 pub use members::member;
+pub use naming::{check_kind, check_name};
 pub use parts::{name_part, pointer_part};
 pub use said::specifiers;
 pub use tags::{enumeration, struct_reference};
