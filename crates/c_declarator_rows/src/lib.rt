@@ -11,7 +11,7 @@
 // `words` has words among specs, `said` specs together, `tags` enums and structs without a body, `enumerators` enumerators,
 // `members` members of structs, `types` names of types and parameters, `parts` names and pointers as parts of declarators,
 // `arrays` arrays and `functions` functions as such parts, `again` names that are declared again, `naming` what is
-// asked of names and of what they are, and `answers` what rows answer.
+// asked of names and of what they are, `whole` the types of whole declarators, and `answers` what rows answer.
 //
 // Source: C99 6.7.
 #![tactic(auto)]
@@ -27,15 +27,17 @@ mod parts;
 mod said;
 mod tags;
 mod types;
+mod whole;
 mod words;
 
 pub use arrays::array_part;
 pub use enumerators::enumerator;
 pub use functions::function_part;
 pub use members::member;
-pub use naming::{check_kind, check_name};
+pub use naming::{check_declared, check_kind, check_main, check_name};
 pub use parts::{name_part, pointer_part};
 pub use said::specifiers;
 pub use tags::{enumeration, struct_reference};
 pub use types::{parameter, type_name};
+pub use whole::built;
 pub use words::word;

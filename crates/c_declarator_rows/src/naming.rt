@@ -1,5 +1,5 @@
 // What is asked of the names that declarators declare (C99 6.7, 6.7.5).
-ghost use Rattle.std.specs.Prelude.{◌≡◌, ◌<◌, ℕ, List, Option, Some, length, option_and_then};
+ghost use Rattle.std.specs.Prelude.{◌≡◌, ◌<◌, ◌&&◌, not, ℕ, List, None, Option, Some, get_or, length, option_and_then};
 ghost use Rattle.c_syntax.specs.declared.syntax.SynNode.{SynNode};
 ghost use Rattle.c_typing.specs.Types.{CType, Layout};
 ghost use Rattle.c_typing.specs.Names as rules_of;
@@ -7,8 +7,9 @@ ghost use Rattle.c_typing.specs.Names.{Name};
 ghost use Rattle.c_typing.specs.Judgements as rules;
 ghost use Rattle.c_typing.specs.Expressions.{type_of_name};
 ghost use Rattle.c_typing.specs.Rules as faults;
-ghost use Rattle.c_typing.specs.Declarators.{name_faults, type_before};
+ghost use Rattle.c_typing.specs.Declarators.{declared_faults, name_faults, type_before};
 ghost use Rattle.c_nodes.specs.Parents.{nodes_in};
+ghost use Rattle.c_names.specs.declared.names.DeclaredName.{DeclaredName};
 ghost use Rattle.c_names.specs.Denoted.{IsDerived, places_in};
 ghost use Rattle.c_names.specs.Names.{AreNames, entity_of};
 ghost use Rattle.c_names.specs.Earlier.{AreEarlier};
@@ -18,14 +19,17 @@ ghost use Rattle.c_answers.specs.Answers.{Allows};
 ghost use Rattle.c_judgements.specs.Judged.{AreJudged};
 ghost use Rattle.c_meanings.specs.Meanings.{slots_of};
 ghost use Rattle.c_declarator_rows.specs.Found.{Finds, IsName};
+ghost use Rattle.c_declarator_rows.specs.Naming as naming;
 ghost use Rattle.c_declarator_rows.specs.Naming.{kind_faults};
+ghost use Rattle.c_typing.specs.Places.{text_at};
 
 use crate::again::is_refused;
 use crate::enumerators::{earlier_at, name_at};
 use crate::words::{name_of, type_of};
 use c_answers::Refusal;
 use c_declared_types::{
-    is_array_or_struct, is_bad_library_name, is_incomplete_object, is_incomplete_parameter,
+    is_array_or_struct, is_bad_library_name, is_bad_main, is_incomplete_object,
+    is_incomplete_parameter,
 };
 use c_meanings::Meanings;
 use c_names::{DeclaredName, Earlier, Entity};
@@ -146,4 +150,115 @@ fn refused_if(is_broken: bool, rule: u8, node: usize) -> Result<(), Refusal>
     } else {
         Ok(())
     }
+}
+
+/// A function of the name of a node may have this type: `main` is `int` without parameters (rule 22).
+pub fn check_main(
+    alloc: Global,
+    nodes: &Nodes,
+    name_node: usize,
+    node: usize,
+    kind: Type,
+    is_function: bool,
+    table: &mut TypeTable,
+) -> Result<(), Refusal>
+    requires { name_node < length nodes.now }
+    ensures is { (t : CType) → IsType table.old kind t → Allows result (naming.main_faults (text_at (nodes_in nodes.now) name_node) t node is_function) }
+    ensures grows { Grows table.old table.new }
+{
+    if !is_function {
+        return Ok(());
+    }
+    let text = nodes.node(name_node).text.as_slice();
+    if is_bad_main(alloc, table, text, kind)? {
+        return Err(Refusal::Broken { rule: 22, node });
+    }
+    Ok(())
+}
+
+/// A declarator may declare the name of a node with this type: of what the name is, of the name, and of `main` (rule 22).
+pub fn check_declared(
+    alloc: Global,
+    nodes: &Nodes,
+    name_node: usize,
+    node: usize,
+    names: &[Option<DeclaredName>],
+    earlier: &[Earlier],
+    kind: Type,
+    defines: bool,
+    meanings: &mut Meanings,
+) -> Result<(), Refusal>
+    requires within { name_node < length nodes.now }
+    requires long { length (nodes_in nodes.now) ≡ length nodes.now }
+    requires derived { IsDerived nodes.now }
+    requires names { AreNames nodes.now names.now }
+    requires earlier { AreEarlier nodes.now earlier.now }
+    requires judged { (js : List rules.Judgement) × AreJudged meanings.old.types (slots_of meanings.old) js }
+    requires kind { (t : CType) × IsType meanings.old.types kind t }
+    requires named { (e : Name) × (rules_of.name_of (places_in nodes.now) name_node ≡ Some e) }
+    ensures is { (js : List rules.Judgement) (e : Name) (t : CType) → AreJudged meanings.old.types (slots_of meanings.old) js → AreLaid meanings.old.types (rules.layouts js) →
+        rules_of.name_of (places_in nodes.now) name_node ≡ Some e → IsType meanings.old.types kind t → Allows result (declared_faults (places_in nodes.now) js e t node defines e.entity) }
+    ensures grows { Grows meanings.old.types meanings.new.types }
+    ensures slots { slots_of meanings.new ≡ slots_of meanings.old }
+{
+    let entity = entity_at(names, name_node);
+    if is_enumerator(entity) {
+        return Ok(());
+    }
+    if let Err(refusal) = check_kind(&meanings.types, entity, kind, node) {
+        return Err(refusal);
+    }
+    let is_function = is_function(entity);
+    let as_function = declares_alone(is_function, defines);
+    match check_name(
+        alloc,
+        nodes,
+        name_node,
+        node,
+        names,
+        earlier,
+        kind,
+        as_function,
+        meanings,
+    ) {
+        Ok(()) => check_main(
+            alloc,
+            nodes,
+            name_node,
+            node,
+            kind,
+            is_function,
+            &mut meanings.types,
+        ),
+        Err(refusal) => Err(refusal),
+    }
+}
+
+fn entity_at(names: &[Option<DeclaredName>], node: usize) -> Entity
+    requires within { node < length names.now }
+    requires named { (x : DeclaredName) × (get_or names.now node None ≡ Some x) }
+    ensures { (x : DeclaredName) → get_or names.now node None ≡ Some x → result ≡ x.entity }
+{
+    match name_at(names, node) {
+        Some(name) => name.entity,
+        None => unreachable!(),
+    }
+}
+
+fn is_enumerator(entity: Entity) -> bool
+    ensures { result ≡ naming.is_enumerator (entity_of entity) }
+{
+    matches!(entity, Entity::Enumerator)
+}
+
+fn is_function(entity: Entity) -> bool
+    ensures { result ≡ naming.is_function (entity_of entity) }
+{
+    matches!(entity, Entity::Function)
+}
+
+fn declares_alone(is_function: bool, defines: bool) -> bool
+    ensures { result ≡ (is_function && not defines) }
+{
+    is_function && !defines
 }
