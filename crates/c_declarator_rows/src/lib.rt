@@ -9,7 +9,7 @@
 // The theorem, on each row: `IsRow` of `c_meanings`, where the node is of the row's kind.
 //
 // `words` has words among specs, `said` specs together, `tags` enums and structs without a body, `enumerators` enumerators,
-// `members` members of structs, `types` names of types and parameters, `parts` names and pointers as parts of declarators,
+// `members` members of structs, `types` names of types and parameters, `parts` names, pointers and parentheses as parts of declarators,
 // `arrays` arrays and `functions` functions as such parts, `again` names that are declared again, `naming` what is
 // asked of names and of what they are, `whole` the types of whole declarators, and `answers` what rows answer.
 //
@@ -35,7 +35,7 @@ pub use enumerators::enumerator;
 pub use functions::function_part;
 pub use members::member;
 pub use naming::{check_declared, check_kind, check_main, check_name};
-pub use parts::{name_part, pointer_part};
+pub use parts::{name_part, parentheses_part, pointer_part};
 pub use said::specifiers;
 pub use tags::{enumeration, struct_reference};
 pub use types::{parameter, type_name};
