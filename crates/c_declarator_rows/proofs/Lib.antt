@@ -11,3 +11,4 @@ pub mod AgainLaws
 pub mod EnumeratorLaws
 mod KidLengths
 mod RoomLaws
+pub mod NamingLaws

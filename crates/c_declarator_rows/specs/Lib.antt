@@ -5,3 +5,4 @@ pub mod Tagged
 pub mod Arrays
 pub mod Parameters
 pub mod Enumerators
+pub mod Naming

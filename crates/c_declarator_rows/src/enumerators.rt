@@ -98,14 +98,14 @@ fn check(
     Ok(())
 }
 
-fn name_at(names: &[Option<DeclaredName>], node: usize) -> Option<DeclaredName>
+pub(crate) fn name_at(names: &[Option<DeclaredName>], node: usize) -> Option<DeclaredName>
     requires { node < length names.now }
     ensures { result ≡ get_or names.now node None }
 {
     names[node]
 }
 
-fn earlier_at(earlier: &[Earlier], node: usize) -> Earlier
+pub(crate) fn earlier_at(earlier: &[Earlier], node: usize) -> Earlier
     requires { node < length earlier.now }
     ensures { result ≡ get_or earlier.now node none_before }
 {

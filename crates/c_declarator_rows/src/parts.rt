@@ -45,6 +45,25 @@ pub fn pointer_part(nodes: &Nodes, node: usize, meanings: &mut Meanings) -> Resu
     }
 }
 
+/// Parentheses around a part of a declarator, as a part of one.
+pub fn parentheses_part(
+    nodes: &Nodes,
+    node: usize,
+    meanings: &mut Meanings,
+) -> Result<Judged, Refusal>
+    requires within { node < length nodes.now }
+    requires kind { (node_in nodes.now node).label.kind ≡ kind.Paren }
+    requires part { is_whole (nodes_in nodes.now) (node_in nodes.now node) ≡ false }
+    requires declarator { rules.typing_at (judged_to nodes.now node) (kid_in nodes.now node 0) ≡ None }
+    requires ready { IsReady nodes.now node 0 meanings.old }
+    ensures { IsRow nodes.now node meanings.old meanings.new result }
+{
+    match meanings.take_steps(nodes, node) {
+        Some(steps) => Ok(Judged::Steps(steps)),
+        None => Ok(Judged::Waits),
+    }
+}
+
 // One more step.
 pub(crate) fn with_step(mut steps: Steps, node: usize, step: Step) -> Result<Judged, Refusal>
     ensures { (k : Known) (ss : List rules.PlacedStep) (s : rules.Step) → AreSteps k steps ss → IsStep k step s →

@@ -118,7 +118,7 @@ fn is_typedef(entity: Entity) -> bool
 }
 
 // The type of the name, by its declarator with its initializer or by its declarator alone.
-fn type_of(meanings: &Meanings, name: DeclaredName) -> Option<Type>
+pub(crate) fn type_of(meanings: &Meanings, name: DeclaredName) -> Option<Type>
     ensures { (table : List SynNode) (js : List rules.Judgement) (e : Name) → AreJudged meanings.now.types (slots_of meanings.now) js → IsName table (Option.Some e) (Option.Some name) →
         Finds meanings.now.types result (type_of_name js e) }
 {
