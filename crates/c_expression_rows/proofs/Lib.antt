@@ -6,3 +6,4 @@ pub mod ParenthesesLaws
 pub mod PrefixLaws
 pub mod RowLaws
 pub mod StringLaws
+pub mod VariableLaws

@@ -52,7 +52,7 @@ module _ (table : List SynNode) (n : ℕ) (is : (node_in table n).label.kind ≡
       ap (judged_by (places_in table) (judged_to table n) (node_in table n)) is
       ∙ ap (λ i. variable (places_in table) (judged_to table n) (node_in table n) (denoted (places_in table).names i (node_in table n).label.text)) own
 
-  by_entity : (e : Name) (entity : Entity) → Denotes table n e → e.entity ≡ entity → judged_at table n ≡ variable_by (places_in table) (judged_to table n) (node_in table n) e entity
+  pub by_entity : (e : Name) (entity : Entity) → Denotes table n e → e.entity ≡ entity → judged_at table n ≡ variable_by (places_in table) (judged_to table n) (node_in table n) e entity
   unfolding variable
   by_entity e entity denotes same = name_is ∙ ap said denotes ∙ ap (variable_by (places_in table) (judged_to table n) (node_in table n) e) same
 
