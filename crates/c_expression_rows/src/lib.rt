@@ -8,10 +8,11 @@
 //
 // The theorem, on each row: `IsRow` of `c_meanings`, where the node is of the row's kind.
 //
-// `constants` has constants, `strings` string literals, `enclosed` what stands in parentheses, `elements` elements of arrays,
-// `members` members of structs, `calls` calls, `prefixes` operators before their operand, `sizes` `sizeof`, `casts` casts,
-// `operators` the operators of two operands, `choices` `?:`; `operands` takes the two operands of a node, `arguments` those of
-// a call, and `callees` looks at what is called.
+// `constants` has constants, `strings` string literals, `names` names, `variables` those of objects and locals, `enclosed` what
+// stands in parentheses, `elements` elements of arrays, `members` members of structs, `calls` calls, `prefixes` operators
+// before their operand, `sizes` `sizeof`, `casts` casts, `operators` the operators of two operands, `choices` `?:`; `operands`
+// takes the two operands of a node, `arguments` those of a call, `callees` looks at what is called, and `declared` at what
+// declares a name.
 //
 // Source: C99 6.5.
 #![tactic(auto)]
@@ -22,14 +23,17 @@ mod calls;
 mod casts;
 mod choices;
 mod constants;
+mod declared;
 mod elements;
 mod enclosed;
 mod members;
+mod names;
 mod operands;
 mod operators;
 mod prefixes;
 mod sizes;
 mod strings;
+mod variables;
 
 pub use calls::call;
 pub use casts::cast;
@@ -38,7 +42,9 @@ pub use constants::{character, integer};
 pub use elements::element;
 pub use enclosed::parentheses;
 pub use members::{arrow, dot};
+pub use names::{enumerator_name, function_name, unknown_name};
 pub use operators::{binary, comma};
 pub use prefixes::unary;
 pub use sizes::{size_of_expression, size_of_type};
 pub use strings::string;
+pub use variables::{local_name, object_name};
