@@ -80,7 +80,7 @@ parameter_kind kind.Paren text cs e = no (sym (brackets_no is_parameter refl ref
 parameter_kind _ text cs e = no e
 
 -- the part inside of a part
-inner_part : (k : SynKind) (text : List ℕ) (cs : List Category) → is_declarator k ≡ true → is_leaf k ≡ false → kids_fit k text cs ≡ true → is_part (category_by k text cs) ≡ true → is_part (get_or cs 0 no_category) ≡ true
+pub inner_part : (k : SynKind) (text : List ℕ) (cs : List Category) → is_declarator k ≡ true → is_leaf k ≡ false → kids_fit k text cs ≡ true → is_part (category_by k text cs) ≡ true → is_part (get_or cs 0 no_category) ≡ true
 unfolding category_by
 inner_part kind.Pointer text cs d l f p = of.of_pointer text cs f
 inner_part kind.ArrayOf text cs d l f p = (of.of_array text cs f).0
@@ -123,7 +123,7 @@ before_it [] (suc n) k t e = absurd (gone e)
 before_it (j ∷ js) (suc n) zero t e = e
 before_it (j ∷ js) (suc n) (suc k) t e = before_it js n k t e
 
-steps_mean : (j : Judgement) (ss : List PlacedStep) → steps_of j ≡ Some ss → j ≡ means (steps ss)
+pub steps_mean : (j : Judgement) (ss : List PlacedStep) → steps_of j ≡ Some ss → j ≡ means (steps ss)
 steps_mean (means m) ss e = by m e
   where
     by : (m : Meaning) → steps_of (means m) ≡ Some ss → means m ≡ means (steps ss)

@@ -5,3 +5,4 @@ pub mod Typedefs
 pub mod Owners
 pub mod Lengths
 pub mod Prefixes
+pub mod Firsts

@@ -32,16 +32,19 @@ module _ (p : Places) where
   whole (suc n) [] = refl
   whole (suc n) (x ∷ ns) = ap (λ rest. x ∷ rest) (whole n ns)
 
-  -- a type that was found before the node n is that of all
-  pub type_before : (n : ℕ) (ns : List Node) (k : ℕ) (t : CType) → type_at (judged_from p [] (take n ns)) k ≡ Some t → type_of (judgement_at (judged_from p [] ns) k) ≡ Some t
-  type_before n ns k t e = by (slice_get (judged_from p [] (take n ns)) k) refl e
+  -- what is seen of a node before the node n is seen of it among all
+  pub seen_before : {A : Type 0} (see : Judgement → Option A) → see waits ≡ None → (n : ℕ) (ns : List Node) (k : ℕ) (a : A) → see (judgement_at (judged_from p [] (take n ns)) k) ≡ Some a → see (judgement_at (judged_from p [] ns) k) ≡ Some a
+  seen_before {A = A} see nothing n ns k a e = by (slice_get (judged_from p [] (take n ns)) k) refl e
     where
       all : judged_from p [] ns ≡ judged_from p (judged_from p [] (take n ns)) (drop n ns)
       all = ap (judged_from p []) (sym (whole n ns)) ∙ after [] (take n ns) (drop n ns)
 
-      gone : None ≡ Some t → ⊥
+      gone : {x : A} → None ≡ Some x → ⊥
       gone e = cc e
 
-      by : (o : Option Judgement) → slice_get (judged_from p [] (take n ns)) k ≡ o → type_of (unwrap_or o waits) ≡ Some t → type_of (judgement_at (judged_from p [] ns) k) ≡ Some t
-      by None there e = absurd (gone e)
-      by (Some j) there e = ap (λ o. type_of (unwrap_or o waits)) (ap (λ js. slice_get js k) all ∙ kept (judged_from p [] (take n ns)) (drop n ns) k j there) ∙ e
+      by : (o : Option Judgement) → slice_get (judged_from p [] (take n ns)) k ≡ o → see (unwrap_or o waits) ≡ Some a → see (judgement_at (judged_from p [] ns) k) ≡ Some a
+      by None there e = absurd (gone (sym nothing ∙ e))
+      by (Some j) there e = ap (λ o. see (unwrap_or o waits)) (ap (λ js. slice_get js k) all ∙ kept (judged_from p [] (take n ns)) (drop n ns) k j there) ∙ e
+
+  pub type_before : (n : ℕ) (ns : List Node) (k : ℕ) (t : CType) → type_at (judged_from p [] (take n ns)) k ≡ Some t → type_of (judgement_at (judged_from p [] ns) k) ≡ Some t
+  type_before n ns k t e = seen_before type_of refl n ns k t e
