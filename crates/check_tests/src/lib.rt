@@ -4,8 +4,8 @@
 //
 // `nodes` has the nodes of a tree, its declarators and its scopes (`c_nodes`), `names` what its names denote and declare
 // (`c_names`), `tags` its tags (`c_tags`), `locals` the locals of functions (`c_locals`), `objects` the objects of a unit
-// (`c_objects`), `contexts` what is called and what stands before functions (`c_contexts`), `values` types by their ids, values
-// and operators (`c_type_ids`, `c_constants`, `c_values`).
+// (`c_objects`), `contexts` what is called and what stands before functions (`c_contexts`), `uses` what is asked of names that are
+// used (`c_uses`), `values` types by their ids, values and operators (`c_type_ids`, `c_constants`, `c_values`).
 #![tactic(auto)]
 
 #[cfg(test)]
@@ -20,5 +20,7 @@ mod nodes;
 mod objects;
 #[cfg(test)]
 mod tags;
+#[cfg(test)]
+mod uses;
 #[cfg(test)]
 mod values;
