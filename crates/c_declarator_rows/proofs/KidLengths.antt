@@ -1,19 +1,22 @@
--- The types of parameters and members of a derived tree have their lengths.
-use Rattle.std.proofs.Common.{◌≡◌, ◌<◌, ℕ, zero, suc, false, List, [], ◌∷◌, Option, Some, None, length, refl, sym, arith, true≢false}
+-- The types of parameters and members of a derived tree have their lengths, and the part inside of an array next to a name has no
+-- steps.
+use Rattle.std.proofs.Common.{◌≡◌, ◌<◌, ℕ, zero, suc, false, List, [], ◌∷◌, Option, Some, None, length, refl, arith, true≢false}
 use Rattle.std.specs.Prelude.{IfSome, slice_get, unwrap_or}
 use Rattle.c_syntax.specs.declared.kind.SynKind.TheVariants as kind
 use Rattle.c_syntax.specs.declared.syntax.SynNode.{SynNode}
 use Rattle.c_typing.specs.Types.{CType, pointer, unsized}
 use Rattle.c_typing.specs.Places.{other_kids}
-use Rattle.c_typing.specs.Judgements.{judgement_at, type_at, type_of}
+use Rattle.c_typing.specs.Judgements.{judgement_at, steps_of, type_at, type_of}
 use Rattle.c_typing.specs.Typing.{judgements_at}
 use Rattle.c_nodes.specs.Parents.{nodes_in, tree_in}
 use Rattle.c_names.specs.Denoted.{IsDerived, places_in}
-use Rattle.c_meanings.specs.Meanings.{judged_to, node_in}
+use Rattle.c_meanings.specs.Meanings.{judged_to, kid_in, node_in}
 use Rattle.c_meanings.proofs.KidLaws.{node_there}
 use Rattle.c_lengths.specs.Lengths as deep
 use Rattle.c_lengths.proofs.Lengths.{members_fine, parameters_fine}
-use Rattle.c_lengths.proofs.Prefixes.{type_before}
+use Rattle.c_lengths.proofs.Firsts.{array_first}
+use Rattle.c_lengths.proofs.Prefixes.{seen_before, type_before}
+use Rattle.c_declarator_rows.specs.Arrays.{BeginsAtName}
 use Rattle.c_declarator_rows.specs.Lengths.{HasLengthAt, KidsHaveLengths, lacks_length}
 use Rattle.c_declarator_rows.proofs.MemberRowLaws.{by_index}
 
@@ -49,3 +52,8 @@ module _ (table : List SynNode) (n : ℕ) (d : IsDerived table) (within : n < le
       let ks = other_kids (node_in table n) in
       by_index (HasLengthAt (judged_to table n)) ks (λ i less. its_length table n (unwrap_or (slice_get ks i) 0)
       (λ u typed. members_fine d.tokens (tree_in table) d.derived n (node_in table n) (node_there table n d within) is i (unwrap_or (slice_get ks i) 0) (there ks i less) u typed))
+
+  pub begins_at_name : (node_in table n).label.kind ≡ kind.ArrayOf → BeginsAtName table n
+  unfolding judged_to places_in nodes_in
+  begins_at_name is = λ next ss typed.
+      array_first d.tokens (tree_in table) d.derived n (node_in table n) (node_there table n d within) is next ss (seen_before (places_in table) steps_of refl n (nodes_in table) (kid_in table n 0) ss typed)

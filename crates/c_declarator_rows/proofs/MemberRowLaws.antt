@@ -1,29 +1,26 @@
 -- What declarations of members mean.
-use Rattle.std.proofs.Common.{◌≡◌, ◌≢◌, ℕ, zero, suc, ◌<◌, false, List, [], ◌∷◌, ◌++◌, length, Option, Some, None, refl, sym, ap, ◌∙◌, subst, arith, get_or, drop}
-use Rattle.std.specs.Prelude.{IfOk, IfSome, Result, Ok, Err, Bool, map, option_map, slice_get, unwrap_or, ◌||◌, ◌&&◌}
+use Rattle.std.proofs.Common.{◌≡◌, ◌≢◌, ℕ, zero, suc, ◌<◌, false, List, [], ◌∷◌, ◌++◌, length, Option, Some, None, refl, sym, ap, subst, arith, get_or}
+use Rattle.std.specs.Prelude.{IfOk, IfSome, Result, Ok, Err, map, option_map, slice_get, unwrap_or}
 use Rattle.std.specs.List.{AllByRecursion}
 use Rattle.std.proofs.lemmas.Bool.{false≢true}
 use Rattle.c_syntax.specs.declared.syntax.SynId.{SynId}
 use Rattle.c_syntax.specs.declared.syntax.SynNode.{SynNode}
-use Rattle.c_syntax.specs.declared.kind.SynKind.{SynKind}
 use Rattle.c_syntax.specs.declared.kind.SynKind.TheVariants as kind
 use Rattle.c_types.specs.declared.kind.TypeId.{TypeId}
 use Rattle.c_typing.specs.Types.{CType, Field, pointer, unsized}
-use Rattle.c_typing.specs.Places.{is_init, node_at, numbers, other_kids, text_at}
-use Rattle.c_typing.specs.Names.{is_declaration}
+use Rattle.c_typing.specs.Places.{node_at, numbers, other_kids, text_at}
 use Rattle.c_typing.specs.Judgements.{Judgement, all_of, given, layout_in, means, members, type_at}
 use Rattle.c_typing.specs.Declarators.{member, member_at}
 use Rattle.c_typing.specs.Typing.{judged_by}
 use Rattle.c_nodes.specs.Parents.{nodes_in}
-use Rattle.c_names.specs.Denoted.{IsDerived, places_in}
+use Rattle.c_names.specs.Denoted.{places_in}
 use Rattle.c_type_ids.specs.Ids.{AreMembers, Known, Names}
 use Rattle.c_values.specs.declared.typings.«Type».{«Type» as TypeForm}
 use Rattle.c_values.specs.declared.typings.«Type».TheVariants as type
 use Rattle.c_judgements.specs.declared.judged.Judged.TheVariants as judged
-use Rattle.c_meanings.specs.Meanings.{HasKids, IsAnswered, judged_at, judged_to, kid_in, node_in}
-use Rattle.c_meanings.proofs.KidLaws.{kid_is}
+use Rattle.c_meanings.specs.Meanings.{IsAnswered, judged_at, judged_to, node_in}
 use Rattle.c_declarator_rows.specs.Found.{Finds}
-use Rattle.c_declarator_rows.specs.Lengths.{FindsAll, FindsId, HasLengthAt, HaveLengths, as_members, known_id, lacks_length}
+use Rattle.c_declarator_rows.specs.Lengths.{FindsAll, FindsId, as_members, known_id, lacks_length}
 use Rattle.c_declarator_rows.proofs.SpecLaws.{given_layout}
 
 -- ---- types with their lengths
@@ -50,26 +47,6 @@ kid_all P (k ∷ kids) (suc i) d within h = kid_all P kids i d (omega (arith, wi
 pub by_index : (P : ℕ → Type 0) (ns : List ℕ) → ((i : ℕ) → i < length ns → P (unwrap_or (slice_get ns i) 0)) → AllByRecursion P ns
 by_index P [] h = tt
 by_index P (n ∷ ns) h = (h 0 (omega arith), by_index P ns (λ i within. h (suc i) (omega (arith, within))))
-
-behind_first : (P : ℕ → Type 0) (ns : List ℕ) → AllByRecursion P ns → AllByRecursion P (drop 1 ns)
-behind_first P [] h = tt
-behind_first P (n ∷ ns) h = h.1
-
-pub all_others : (P : ℕ → Type 0) (table : List SynNode) (n : ℕ) → ((i : ℕ) → HasKids table n (suc i) → P (kid_in table n i)) → AllByRecursion P (other_kids (node_in table n))
-all_others P table n h = behind_first P (node_in table n).kids (by_index P (node_in table n).kids (λ i within. h i (omega (arith, within))))
-
--- by its parent a kid is no declarator of a declaration
-pub none_lacks : (table : List SynNode) (n i : ℕ) → IsDerived table → n < length (nodes_in table) → is_init (node_in table n).label.kind ≡ false → is_declaration (node_in table n).label.kind ≡ false
-    → HaveLengths table n → HasKids table n (suc i) → HasLengthAt (judged_to table n) (kid_in table n i)
-none_lacks table n i d within init declaration have has =
-    let k = kid_is table n d within i has in
-    have (kid_in table n i) k.less (ap (λ o. lacks o (node_in table (kid_in table n i)).label.kind) (ap (λ p. (node_in table p).label.kind) k.parent) ∙ by (node_in table n).label.kind (node_in table (kid_in table n i)).label.kind init declaration)
-  where
-    lacks : SynKind → SynKind → Bool
-    lacks owner own = is_init owner || (is_declaration owner && is_init own)
-
-    by : (owner own : SynKind) → is_init owner ≡ false → is_declaration owner ≡ false → lacks owner own ≡ false
-    by owner own a b = ap (λ x. x || (is_declaration owner && is_init own)) a ∙ ap (λ x. x && is_init own) b
 
 -- ---- members
 

@@ -1,18 +1,18 @@
 -- The node that a tag names is one of the tree.
-use Rattle.std.proofs.Common.{◌≡◌, ◌⊎◌, inl, inr, ℕ, zero, suc, ◌<◌, Bool, true, false, not, ◌&&◌, ◌||◌, List, [], ◌∷◌, ◌++◌, Option, Some, None, length, refl, sym, ap, ◌∙◌, subst, arith, true≢false}
-use Rattle.std.specs.Prelude.{filter, find, if◌then◌else◌, nat_le, option_map, slice_get, unwrap_or, ◌==◌}
+use Rattle.std.proofs.Common.{◌≡◌, ℕ, ◌<◌, Bool, true, false, not, ◌&&◌, ◌||◌, List, [], ◌∷◌, ◌++◌, Option, Some, None, length, refl, sym, ap, subst, arith}
+use Rattle.std.specs.Prelude.{filter, find, if◌then◌else◌, nat_le, slice_get, unwrap_or, ◌==◌}
 use Rattle.std.specs.Str.{bytes_eq}
 use Rattle.c_syntax.specs.declared.kind.SynKind.{SynKind}
 use Rattle.c_syntax.specs.declared.kind.SynKind.TheVariants as kind
 use Rattle.c_syntax.specs.declared.syntax.SynNode.{SynNode}
 use Rattle.c_syntax.specs.Trees.{one}
 use Rattle.c_typing.specs.Places.{Node, Scope, by_first_token, end_of, has_kid, in_scope, kind_at, node_at, nowhere, scope_at, scopes_of}
-use Rattle.c_typing.specs.Names.{Tag, add_tag, fresh_tag, inner_tag, innermost_tag, is_lone, tag_after, tag_of, tags_by, tags_from}
+use Rattle.c_typing.specs.Names.{Tag, add_tag, inner_tag, innermost_tag, is_lone, tag_after, tag_of, tags_by, tags_from}
 use Rattle.c_typing.specs.Declarators.{tag_names}
 use Rattle.c_typing.proofs.ProgressKids.{tiled}
 use Rattle.c_typing.proofs.ProgressPlaces.{within}
 use Rattle.c_nodes.specs.Parents.{nodes_in, tree_in}
-use Rattle.c_names.specs.Denoted.{IsDerived, places_in}
+use Rattle.c_names.specs.Denoted.{places_in}
 use Rattle.c_meanings.specs.declared.meanings.Meanings.{Meanings}
 use Rattle.c_meanings.specs.Meanings.{IsReady, node_in}
 use Rattle.c_meanings.proofs.MeaningLaws.{its_number}

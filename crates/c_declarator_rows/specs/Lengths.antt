@@ -1,11 +1,8 @@
 -- Types in which no array is without a length.
-use Rattle.std.specs.Prelude.{◌≡◌, ◌<◌, ℕ, Bool, true, false, ◌||◌, ◌&&◌, List, Option, Some, None, MatchOption, IfSome, Result, Ok, Err}
+use Rattle.std.specs.Prelude.{◌≡◌, ℕ, Bool, true, false, List, Option, Some, None, MatchOption, IfSome, Result, Ok, Err}
 use Rattle.std.specs.List.{AllByRecursion}
-use Rattle.c_syntax.specs.declared.syntax.SynNode.{SynNode}
 use Rattle.c_types.specs.declared.kind.TypeId.{TypeId}
 use Rattle.c_typing.specs.Types.{CType, Field, pointer, unsized}
-use Rattle.c_typing.specs.Places.{is_init}
-use Rattle.c_typing.specs.Names.{is_declaration}
 use Rattle.c_typing.specs.Judgements.{Judgement, type_at}
 use Rattle.c_type_ids.specs.Ids.{AreMembers, Known, Names}
 use Rattle.c_values.specs.declared.typings.«Type».{«Type» as TypeForm}
@@ -14,7 +11,6 @@ use Rattle.c_answers.specs.declared.refusal.Refusal.{Refusal}
 use Rattle.c_answers.specs.declared.refusal.Refusal.TheVariants as refusal
 use Rattle.c_judgements.specs.declared.judged.Judged.{Judged}
 use Rattle.c_judgements.specs.declared.judged.Judged.TheVariants as judged
-use Rattle.c_meanings.specs.Meanings.{judged_to, node_in}
 
 -- an array without a length, or a pointer to one
 abbrev pub lacks_length : CType → Bool
@@ -27,16 +23,6 @@ HasLengthAt js n = IfSome (type_at js n) (λ t. lacks_length t ≡ false)
 
 abbrev pub KidsHaveLengths : List Judgement → List ℕ → Type 0
 KidsHaveLengths js ns = AllByRecursion (HasLengthAt js) ns
-
--- the declarator of a declaration, alone or with its initializer, which may give it a length
-abbrev pub may_lack : List SynNode → ℕ → Bool
-may_lack table k =
-    let owner = (node_in table (node_in table k).parent).label.kind in
-    is_init owner || (is_declaration owner && is_init (node_in table k).label.kind)
-
--- of the nodes before the node n, no other has a type that lacks a length
-abbrev pub HaveLengths : List SynNode → ℕ → Type 0
-HaveLengths table n = (k : ℕ) → k < n → may_lack table k ≡ false → HasLengthAt (judged_to table n) k
 
 -- a type by its id alone; or there is none
 abbrev pub FindsId : Known → Option TypeId → Option CType → Type 0

@@ -14,7 +14,7 @@ ghost use Rattle.c_declared_types.specs.Steps.{AreSteps};
 ghost use Rattle.c_meanings.specs.Meanings.{IsAnswered, IsReady, IsRow, node_in};
 ghost use Rattle.c_declarator_rows.specs.declared.arrays.ArrayPlace.TheVariants as places_of;
 ghost use Rattle.c_declarator_rows.specs.Arrays as arrays;
-ghost use Rattle.c_declarator_rows.specs.Arrays.{BeginsAtName, IsPlace};
+ghost use Rattle.c_declarator_rows.specs.Arrays.{IsPlace};
 
 use crate::parts::with_step;
 use crate::said::is_word;
@@ -128,7 +128,6 @@ pub fn array_part(
     requires part { is_whole (nodes_in nodes.now) (node_in nodes.now node) ≡ false }
     requires next { AreNext nodes.now next.now }
     requires wholes { AreWholes nodes.now wholes.now }
-    requires first { BeginsAtName nodes.now node }
     requires ready { IsReady nodes.now node 0 meanings.old }
     ensures { IsRow nodes.now node meanings.old meanings.new result }
 {

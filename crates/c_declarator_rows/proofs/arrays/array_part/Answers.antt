@@ -7,9 +7,10 @@ use Rattle.c_judgements.specs.declared.judged.Judged.TheVariants as judged
 use Rattle.c_meanings.specs.Meanings.{IsAnswered, kid_in, node_in}
 use Rattle.c_meanings.proofs.MeaningLaws.{its_number, kids_of, next_kid}
 use Rattle.c_declarator_rows.specs.Arrays.{counted, uncounted}
+use Rattle.c_declarator_rows.proofs.KidLengths.{begins_at_name}
 use Rattle.c_declarator_rows.proofs.ArrayLaws.{array_absent, array_counted, array_waits, counted_layout, initialized_next, length_waits, uncounted_layout}
 use Rattle.c_declarator_rows.proofs.ListLaws.{kids_long}
-use Rattle.c_declarator_rows.proofs.RowLaws.{row_by}
+use Rattle.c_declarator_rows.proofs.RowLaws.{row_by, within_nodes}
 use Rattle.c_declarator_rows.proofs.arrays.array_part.Goals as goal
 
 pub take_steps-requires-clause-kids : goal.take_steps-requires-clause-kids
@@ -34,7 +35,7 @@ returns-then-not-has_kid c =
     let (rs, e, are) = (c.in-Some.ensures {u = tt}).is in
     row_by table n (kid_in table n 0 + 1) old mid mid c.uncounted.result (uncounted n rs place) c.take_steps.ensures.ready c.requires.within c.take_steps.ensures.left refl (grows_same mid.types mid.types refl)
     (array_absent table n c.requires.kind c.requires.part own rs e place (sym c.has_kid.ensures ∙ c.if-not-has_kid.true) c.array_place-place.ensures) (uncounted_layout n rs place)
-    (c.uncounted.ensures mid.types rs are (λ same. c.requires.first (initialized_next table n place c.array_place-place.ensures same) rs e))
+    (c.uncounted.ensures mid.types rs are (λ same. (begins_at_name table n c.requires.ready.derived (within_nodes table n 0 c.args.meanings.now c.requires.ready c.requires.within) c.requires.kind) (initialized_next table n place c.array_place-place.ensures same) rs e))
 
 pub operand_at-requires-clause-kids : goal.operand_at-requires-clause-kids
 operand_at-requires-clause-kids c = kids_long (node_in c.args.nodes.now c.args.node).kids 1 (sym c.has_kid.ensures ∙ c.if-not-has_kid.false)

@@ -1,4 +1,4 @@
-use Rattle.std.proofs.Common.{ap, subst, sym}
+use Rattle.std.proofs.Common.{subst, sym}
 use Rattle.c_typing.specs.Judgements.{given, means, members}
 use Rattle.c_type_ids.proofs.IdLaws.{if_ok}
 use Rattle.c_meanings.specs.Meanings.{IsAnswered, judged_to}
