@@ -1,6 +1,6 @@
 -- Behind the part next to a name, no step stands nearer to it.
-use Rattle.std.proofs.Common.{◌≡◌, ◌⊎◌, inl, inr, ℕ, zero, suc, ◌<◌, ◌≤◌, Bool, true, false, not, ◌&&◌, List, [], ◌∷◌, ◌++◌, Option, Some, None, map, refl, sym, ap, ◌∙◌, subst, arith, true≢false}
-use Rattle.std.specs.Prelude.{find, get_or, slice_get, take, unwrap_or, if◌then◌else◌, ◌==◌}
+use Rattle.std.proofs.Common.{◌≡◌, ℕ, zero, suc, ◌<◌, ◌≤◌, Bool, true, false, ◌&&◌, List, [], ◌∷◌, Option, Some, None, map, refl, sym, ap, ◌∙◌, arith, true≢false}
+use Rattle.std.specs.Prelude.{find, slice_get, take, unwrap_or, if◌then◌else◌, ◌==◌}
 use Rattle.std.proofs.lemmas.Bool.Decides.{Decides-eqb}
 use Rattle.c_lexer.specs.declared.token.Token.{Token}
 use Rattle.c_syntax.specs.declared.kind.SynKind.{SynKind}
@@ -10,22 +10,22 @@ use Rattle.c_grammar.specs.Derivation.{IsTreeOf}
 use Rattle.c_typing.specs.Types.{CType}
 use Rattle.c_typing.specs.Places.{Node, nodes, kid, is_declarator, is_step, is_whole, is_next_to_name, next_to_name, parent_of, specs_of}
 use Rattle.c_typing.specs.Names.{Places, places}
-use Rattle.c_typing.specs.Judgements.{Fault, Judgement, Meaning, PlacedStep, Typing, declares, expresses, means, breaks_rules, steps, verdict, given, waits, judgement_at, layouts, steps_at, steps_of, type_at, typing_at}
+use Rattle.c_typing.specs.Judgements.{Fault, Judgement, PlacedStep, Typing, declares, means, breaks_rules, steps, verdict, given, waits, judgement_at, layouts, steps_at, steps_of, type_at, typing_at}
 use Rattle.c_typing.specs.Declarators.{build, declarator, whole_type}
 use Rattle.c_typing.specs.Typing.{in_parentheses, judged_by, judgements_at}
-use Rattle.c_typing.specs.Shapes.{Category, category_by, kids_fit}
+use Rattle.c_typing.specs.Shapes.{kids_fit}
 use Rattle.c_typing.specs.ShapesOfNodes.{category_at}
 use Rattle.c_typing.proofs.ProgressBase.{judged_at, earlier_at}
 use Rattle.c_typing.proofs.ProgressForms.{is_part}
 use Rattle.c_typing.proofs.ProgressKinds as of
 use Rattle.c_typing.proofs.ProgressStep.{at_index}
 use Rattle.c_typing.proofs.ProgressKids.{kid_of}
-use Rattle.c_typing.proofs.ProgressAll.{by_number, found_at}
+use Rattle.c_typing.proofs.ProgressAll.{by_number}
 use Rattle.c_typing.proofs.ProgressPlaces.{AreLinked, are_linked, some_same}
 use Rattle.c_typing.proofs.ProgressWhole.{first_begins}
 use Rattle.c_typing.proofs.ProgressParts.{part_declares}
 use Rattle.c_typing.proofs.ProgressBuilt.{is_leaf}
-use Rattle.c_lengths.proofs.Lengths.{inner_part, steps_mean}
+use Rattle.c_lengths.proofs.PartKinds.{inner_part, steps_mean}
 
 -- ---- the steps of a declarator are those that it is given
 

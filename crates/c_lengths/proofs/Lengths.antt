@@ -1,6 +1,6 @@
 -- In a derived tree the types of specs, of their words, of parameters and of members have their lengths.
 use Rattle.std.proofs.Common.{◌≡◌, ◌⊎◌, inl, inr, ℕ, zero, suc, ◌<◌, Bool, true, false, not, ◌&&◌, List, [], ◌∷◌, Option, Some, None, length, map, refl, sym, ap, ◌∙◌, subst, arith, true≢false}
-use Rattle.std.specs.Prelude.{slice_get, unwrap_or, take, drop, get_or, if◌then◌else◌}
+use Rattle.std.specs.Prelude.{slice_get, unwrap_or, take, drop, if◌then◌else◌}
 use Rattle.std.specs.Option.{is_some}
 use Rattle.std.specs.List.{list_all}
 use Rattle.c_lexer.specs.declared.token.Token.{Token}
@@ -10,9 +10,9 @@ use Rattle.c_syntax.specs.Trees.{Tree}
 use Rattle.c_grammar.specs.Derivation.{IsTreeOf}
 use Rattle.c_grammar.specs.Vocabulary.{is_type_word, is_storage_word}
 use Rattle.c_typing.specs.Types.{CType, unsized}
-use Rattle.c_typing.specs.Places.{Node, nodes, node_at, kind_at, kid, has_kid, other_kids, parent_of, specs_of, is_declarator, is_init, is_whole}
+use Rattle.c_typing.specs.Places.{Node, nodes, node_at, kind_at, kid, has_kid, other_kids, parent_of, specs_of, is_declarator, is_init, is_whole, is_next_to_name}
 use Rattle.c_typing.specs.Names.{Name, Places, places, is_static, is_typedef, denoted, name_of, names_at}
-use Rattle.c_typing.specs.Judgements.{Fault, Judgement, Meaning, PlacedStep, initialized, means, breaks_rules, steps, verdict, given, waits, judgement_at, type_at, type_of, steps_at, steps_of}
+use Rattle.c_typing.specs.Judgements.{Fault, Judgement, Meaning, PlacedStep, initialized, means, verdict, given, judgement_at, type_at, type_of, steps_at, steps_of}
 use Rattle.c_typing.specs.Expressions.{type_of_name}
 use Rattle.c_typing.specs.Declarators.{parameter_node}
 use Rattle.c_types.specs.declared.tree.Cell.{Cell}
@@ -46,6 +46,8 @@ use Rattle.c_lengths.proofs.Specs.{says_type, type_only}
 use Rattle.c_lengths.proofs.Parts.{Part, any_part, is_given}
 use Rattle.c_lengths.proofs.Typedefs.{Says, all_say, says_typedef}
 use Rattle.c_lengths.proofs.Owners.{has_none, not_init}
+use Rattle.c_lengths.proofs.PartKinds.{inner_part, steps_mean}
+use Rattle.c_lengths.proofs.Firsts.{array_first}
 
 no : {A : Type 0} → false ≡ true → A
 no e = absurd (true≢false (sym e))
@@ -79,25 +81,6 @@ parameter_kind kind.ArrayOf text cs e = no (sym (over_no is_parameter refl refl 
 parameter_kind kind.Paren text cs e = no (sym (brackets_no is_parameter refl refl refl refl cs) ∙ e)
 parameter_kind _ text cs e = no e
 
--- the part inside of a part
-pub inner_part : (k : SynKind) (text : List ℕ) (cs : List Category) → is_declarator k ≡ true → is_leaf k ≡ false → kids_fit k text cs ≡ true → is_part (category_by k text cs) ≡ true → is_part (get_or cs 0 no_category) ≡ true
-unfolding category_by
-inner_part kind.Pointer text cs d l f p = of.of_pointer text cs f
-inner_part kind.ArrayOf text cs d l f p = (of.of_array text cs f).0
-inner_part kind.Takes text cs d l f p = (of.of_takes text cs f).0
-inner_part kind.Paren text cs d l f p = by cs p
-  where
-    by : (cs : List Category) → is_part (in_parentheses cs) ≡ true → is_part (get_or cs 0 no_category) ≡ true
-    by (category.declarator ∷ cs) p = refl
-    by (category.abstract_declarator ∷ cs) p = refl
-    by (category.no_name ∷ cs) p = refl
-    by (category.expression l ∷ cs) p = no p
-    by (_ ∷ cs) p = no p
-    by [] p = no p
-inner_part kind.Ident text cs d l f p = absurd (true≢false l)
-inner_part kind.NoName text cs d l f p = absurd (true≢false l)
-inner_part _ text cs d l f p = no d
-
 -- the first kid of a declarator with an initializer
 only_initial : (cat : ℕ → Category) (ks : List ℕ) (i k : ℕ) → at_most_one is_initializer (map cat ks) ≡ true → slice_get ks i ≡ Some k → cat k ≡ category.declarator → ⊥
 unfolding category.is_within
@@ -123,14 +106,15 @@ before_it [] (suc n) k t e = absurd (gone e)
 before_it (j ∷ js) (suc n) zero t e = e
 before_it (j ∷ js) (suc n) (suc k) t e = before_it js n k t e
 
-pub steps_mean : (j : Judgement) (ss : List PlacedStep) → steps_of j ≡ Some ss → j ≡ means (steps ss)
-steps_mean (means m) ss e = by m e
+steps_before : (js : List Judgement) (n k : ℕ) (ss : List PlacedStep) → steps_at (take n js) k ≡ Some ss → steps_of (judgement_at js k) ≡ Some ss
+steps_before js zero k ss e = absurd (gone (none js ∙ e))
   where
-    by : (m : Meaning) → steps_of (means m) ≡ Some ss → means m ≡ means (steps ss)
-    by (steps xs) e = ap (λ ys. means (steps ys)) (some_same e)
-    by _ e = absurd (gone e)
-steps_mean (breaks_rules f fs) ss e = absurd (gone e)
-steps_mean waits ss e = absurd (gone e)
+    none : (ks : List Judgement) → None ≡ steps_at (take 0 ks) k
+    none [] = refl
+    none (j ∷ ks) = refl
+steps_before [] (suc n) k ss e = absurd (gone e)
+steps_before (j ∷ js) (suc n) zero ss e = e
+steps_before (j ∷ js) (suc n) (suc k) ss e = steps_before js n k ss e
 
 given_type : {A : Type 0} (o : Option A) (f : A → Judgement) (t : CType) → type_of (given o f) ≡ Some t → (a : A) × (o ≡ Some a) × (type_of (f a) ≡ Some t)
 given_type {A = A} None f t e = absurd (gone e)
@@ -333,12 +317,15 @@ module _ (tokens : List Token) (t : Tree) (derived : IsTreeOf tokens t) where
         others [] i k at fit = absurd (gone at)
         others (j ∷ ks) i k at fit = (at, at_all (category_at t) is_parameter ks i k fit at)
 
+    first : m.label.kind ≡ kind.ArrayOf → is_next_to_name (nodes t) m ≡ true → (ss : List PlacedStep) → steps_at (take n js) (kid m 0) ≡ Some ss → ss ≡ []
+    first same next ss typed = array_first tokens t derived n m e same next ss (steps_before js n (kid m 0) ss typed)
+
     part : is_part (category_at t n) ≡ true → Part (is_given (places t) m.first) (judgement_at js n)
     part is =
         let shape = l.shapes.shaped n m e in
         let declares = part_declares m.label.kind m.label.text (map (category_at t) m.kids) (ap is_part (sym shape.category) ∙ is) in
         subst (λ (j : Judgement). Part (is_given (places t) m.first) j) (sym own)
-        (any_part (places t) (take n js) m (base is) m.label.kind declares (λ leaf. inner is declares leaf) parameters)
+        (any_part (places t) (take n js) m (base is) m.label.kind declares (λ leaf. inner is declares leaf) first parameters)
 
     -- ---- parameters and members
 

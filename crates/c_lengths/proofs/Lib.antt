@@ -1,3 +1,4 @@
+pub mod PartKinds
 pub mod Steps
 pub mod Parts
 pub mod Specs

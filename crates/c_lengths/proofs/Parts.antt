@@ -12,8 +12,8 @@ use Rattle.c_typing.specs.Rules.{many_parameters, bad_parameter, absent_length}
 use Rattle.c_typing.specs.Declarators.{word_in, built, whole_type, declarator, build, with_step, pointer_declarator, is_parameter_length, is_given_by_initializer, absent_length_step, length_faults, length_step, array_declarator, function_declarator}
 use Rattle.c_typing.specs.Typing.{judged_by, in_parentheses}
 use Rattle.c_typing.proofs.ProgressBuilt.{is_leaf}
-use Rattle.c_lengths.specs.Lengths.{lacks_length}
-use Rattle.c_lengths.proofs.Steps.{InTypes, adjusted_fine, all_fine, at_first, behind, build_fine, more_steps, step_lacks, steps_lack}
+use Rattle.c_lengths.specs.Lengths.{inside_lacks, lacks_length}
+use Rattle.c_lengths.proofs.Steps.{InTypes, adjusted_fine, adjusted_inside, all_fine, at_first, behind, build_fine, build_inside, more_steps, one_step, step_lacks, steps_lack}
 
 -- the declarator of this name has an initializer that may give a length
 abbrev pub is_given : Places → ℕ → Bool
@@ -24,6 +24,7 @@ is_given p i =
 -- what is said of the judgement of a declarator, or of a part of one
 pub record Part (given_length : Bool) (j : Judgement) : Type 0 where
   pub whole : (t : CType) → type_of j ≡ Some t → given_length ≡ false → lacks_length t ≡ false
+  pub inside : (t : CType) → type_of j ≡ Some t → inside_lacks t ≡ false
   pub part : (ss : List PlacedStep) → j ≡ means (steps ss) → steps_lack given_length ss ≡ false
 
 abbrev is_stepped : Judgement → Bool
@@ -38,7 +39,7 @@ steps_same e = cc e
 
 module _ (g : Bool) where
   never : (j : Judgement) → type_of j ≡ None → is_stepped j ≡ false → Part g j
-  never j h k = record { whole = λ t e. absurd (apart (sym h ∙ e)); part = λ ss e. absurd (true≢false (sym (ap is_stepped e) ∙ k)) }
+  never j h k = record { whole = λ t e. absurd (apart (sym h ∙ e)); inside = λ t e. absurd (apart (sym h ∙ e)); part = λ ss e. absurd (true≢false (sym (ap is_stepped e) ∙ k)) }
     where
       apart : {t : CType} → None ≡ Some t → ⊥
       apart e = cc e
@@ -61,12 +62,16 @@ module _ (g : Bool) where
   by_list [] j m h = h
   by_list (f ∷ fs) j m h = never (breaks_rules f fs) refl refl
 
-  of_verdict : (fs : List Fault) (t : CType) → (g ≡ false → lacks_length t ≡ false) → Part g (verdict fs (declares t))
-  of_verdict [] t h = record { whole = λ u e none. ap lacks_length (sym (some_same e)) ∙ h none; part = λ ss e. absurd (true≢false (sym (ap is_stepped e))) }
-  of_verdict (f ∷ fs) t h = never (breaks_rules f fs) refl refl
+  of_verdict : (fs : List Fault) (t : CType) → (g ≡ false → lacks_length t ≡ false) → inside_lacks t ≡ false → Part g (verdict fs (declares t))
+  of_verdict [] t h i = record {
+    whole = λ u e none. ap lacks_length (sym (some_same e)) ∙ h none;
+    inside = λ u e. ap inside_lacks (sym (some_same e)) ∙ i;
+    part = λ ss e. absurd (true≢false (sym (ap is_stepped e)));
+  }
+  of_verdict (f ∷ fs) t h i = never (breaks_rules f fs) refl refl
 
   of_steps : (ss : List PlacedStep) → steps_lack g ss ≡ false → Part g (means (steps ss))
-  of_steps ss h = record { whole = λ t e. absurd (apart e); part = λ xs e. ap (steps_lack g) (sym (steps_same e)) ∙ h }
+  of_steps ss h = record { whole = λ t e. absurd (apart e); inside = λ t e. absurd (apart e); part = λ xs e. ap (steps_lack g) (sym (steps_same e)) ∙ h }
     where
       apart : {t : CType} → None ≡ Some t → ⊥
       apart e = cc e
@@ -78,10 +83,10 @@ module _ (p : Places) (js : List Judgement) (node : Node) where
   abbrev base_at : Option CType
   base_at = type_at js (specs_of p.nodes (parent_of p.nodes node.id)).id
 
-  whole_part : (t : CType) (fs : List Fault) → (gives ≡ false → lacks_length t ≡ false) → Part gives (whole_type p js node (parent_of p.nodes node.id) (built t fs))
+  whole_part : (t : CType) (fs : List Fault) → (gives ≡ false → lacks_length t ≡ false) → inside_lacks t ≡ false → Part gives (whole_type p js node (parent_of p.nodes node.id) (built t fs))
   unfolding whole_type
-  whole_part t [] h = of_verdict gives _ _ (λ none. adjusted_fine (parent_of p.nodes node.id).label.kind t (h none))
-  whole_part t (f ∷ fs) h = never gives (breaks_rules f fs) refl refl
+  whole_part t [] h i = of_verdict gives _ _ (λ none. adjusted_fine (parent_of p.nodes node.id).label.kind t (h none)) (adjusted_inside (parent_of p.nodes node.id).label.kind t i)
+  whole_part t (f ∷ fs) h i = never gives (breaks_rules f fs) refl refl
 
   module _ (base : is_whole p.nodes node ≡ true → (b : CType) → base_at ≡ Some b → lacks_length b ≡ false) where
     declarator_part : (ss : List PlacedStep) → steps_lack gives ss ≡ false → Part gives (declarator p js node ss)
@@ -90,28 +95,31 @@ module _ (p : Places) (js : List Judgement) (node : Node) where
         of_choice gives (is_whole p.nodes node) _ _
         (λ w. of_given_part gives base_at _ (λ b e.
         let made = build (layouts js) b ss in
-        whole_part made.type made.faults (λ none. build_fine (layouts js) b ss (base w b e) (ap (λ x. steps_lack x ss) (sym none) ∙ h))))
+        whole_part made.type made.faults (λ none. build_fine (layouts js) b ss (base w b e) (ap (λ x. steps_lack x ss) (sym none) ∙ h)) (build_inside gives (layouts js) b ss (base w b e) h)))
         (of_steps gives ss h)
 
     module _ (inner : (ss : List PlacedStep) → steps_at js (kid node 0) ≡ Some ss → steps_lack gives ss ≡ false) where
-      stepped : (ss : List PlacedStep) (s : Step) → steps_at js (kid node 0) ≡ Some ss → step_lacks gives s ≡ false → Part gives (declarator p js node (with_step ss node s))
+      stepped : (ss : List PlacedStep) (s : Step) → steps_at js (kid node 0) ≡ Some ss → step_lacks false s ≡ false → Part gives (declarator p js node (with_step ss node s))
       stepped ss s e h = declarator_part (with_step ss node s) (more_steps gives ss node s (inner ss e) h)
 
-      given_by : is_given_by_initializer p node ≡ true → not gives ≡ false
-      given_by e = by (is_next_to_name p.nodes node) _ _ _ e
-        where
-          by : (a b c d : Bool) → (a && b && c && d) ≡ true → not (b && c && d) ≡ false
-          by true true true true e = refl
-          by true true true false e = absurd (true≢false (sym e))
-          by true true false d e = absurd (true≢false (sym e))
-          by true false c d e = absurd (true≢false (sym e))
-          by false b c d e = absurd (true≢false (sym e))
+      given_by : (a b c d : Bool) → (a && b && c && d) ≡ true → (a ≡ true) × (not (b && c && d) ≡ false)
+      given_by true true true true e = (refl, refl)
+      given_by true true true false e = absurd (true≢false (sym e))
+      given_by true true false d e = absurd (true≢false (sym e))
+      given_by true false c d e = absurd (true≢false (sym e))
+      given_by false b c d e = absurd (true≢false (sym e))
 
-      absent_part : (ss : List PlacedStep) → steps_at js (kid node 0) ≡ Some ss → Part gives (absent_length_step p js node ss)
+      -- the step that is next to its name
+      unsized_part : (is_next_to_name p.nodes node ≡ true → (ss : List PlacedStep) → steps_at js (kid node 0) ≡ Some ss → ss ≡ []) → (ss : List PlacedStep) → steps_at js (kid node 0) ≡ Some ss → is_given_by_initializer p node ≡ true → Part gives (declarator p js node (with_step ss node of_unsized))
+      unsized_part first ss e g =
+          let found = given_by (is_next_to_name p.nodes node) _ _ _ g in
+          subst (λ rs. Part gives (declarator p js node (with_step rs node of_unsized))) (sym (first found.0 ss e)) (declarator_part (with_step [] node of_unsized) (one_step gives node of_unsized found.1))
+
+      absent_part : (is_next_to_name p.nodes node ≡ true → (ss : List PlacedStep) → steps_at js (kid node 0) ≡ Some ss → ss ≡ []) → (ss : List PlacedStep) → steps_at js (kid node 0) ≡ Some ss → Part gives (absent_length_step p js node ss)
       unfolding absent_length_step
-      absent_part ss e =
+      absent_part first ss e =
           of_choice gives (is_parameter_length p node) _ _ (λ h. stepped ss Step.of_parameter e refl)
-          (of_choice gives (is_given_by_initializer p node) _ _ (λ h. stepped ss of_unsized e (given_by h)) (never gives (verdict (absent_length node.id) (steps ss)) refl refl))
+          (of_choice gives (is_given_by_initializer p node) _ _ (λ h. unsized_part first ss e h) (never gives (verdict (absent_length node.id) (steps ss)) refl refl))
 
       length_part : (ss : List PlacedStep) (x : Typing) → steps_at js (kid node 0) ≡ Some ss → Part gives (length_step p js node ss x)
       unfolding length_step
@@ -158,23 +166,24 @@ module _ (p : Places) (js : List Judgement) (node : Node) where
           of_besides gives (many_parameters (length (map (type_at js) (other_kids node))) node.id ++ bad_parameter (filter_map (λ part. part) (map (type_at js) (other_kids node))) node.id) _
           (of_given_part gives (steps_at js (kid node 0)) _ (λ ss f. of_given_part gives (all_of (map (type_at js) (other_kids node))) _ (λ types q. stepped ss (of_function (types_of types)) f (all_fine types (λ t i. found (other_kids node) h types q t i)))))
 
-      kinds : (k : SynKind) → is_declarator k ≡ true → (k ≡ kind.Takes → Parameters) → Part gives (judged_by p js node k)
+      kinds : (k : SynKind) → is_declarator k ≡ true → (k ≡ kind.ArrayOf → is_next_to_name p.nodes node ≡ true → (ss : List PlacedStep) → steps_at js (kid node 0) ≡ Some ss → ss ≡ []) → (k ≡ kind.Takes → Parameters) → Part gives (judged_by p js node k)
       unfolding judged_by pointer_declarator array_declarator
-      kinds kind.Ident e h = declarator_part [] refl
-      kinds kind.NoName e h = declarator_part [] refl
-      kinds kind.Paren e h = parentheses_part (typing_at js (kid node 0))
-      kinds kind.Pointer e h = of_given_part gives (steps_at js (kid node 0)) _ (λ ss f. stepped ss to_pointer f refl)
-      kinds kind.ArrayOf e h =
-          of_given_part gives (steps_at js (kid node 0)) _ (λ ss f. of_choice gives (has_kid node 1) _ _ (λ there. of_given_part gives (typing_at js (kid node 1)) _ (λ x q. length_part ss x f)) (absent_part ss f))
-      kinds kind.Takes e h = takes_part (h refl)
-      kinds _ e h = absurd (true≢false (sym e))
+      kinds kind.Ident e first h = declarator_part [] refl
+      kinds kind.NoName e first h = declarator_part [] refl
+      kinds kind.Paren e first h = parentheses_part (typing_at js (kid node 0))
+      kinds kind.Pointer e first h = of_given_part gives (steps_at js (kid node 0)) _ (λ ss f. stepped ss to_pointer f refl)
+      kinds kind.ArrayOf e first h =
+          of_given_part gives (steps_at js (kid node 0)) _ (λ ss f. of_choice gives (has_kid node 1) _ _ (λ there. of_given_part gives (typing_at js (kid node 1)) _ (λ x q. length_part ss x f)) (absent_part (first refl) ss f))
+      kinds kind.Takes e first h = takes_part (h refl)
+      kinds _ e first h = absurd (true≢false (sym e))
 
     -- a name, or the place of an absent one, has no part
     pub any_part : (k : SynKind) → is_declarator k ≡ true
         → (is_leaf k ≡ false → (ss : List PlacedStep) → steps_at js (kid node 0) ≡ Some ss → steps_lack gives ss ≡ false)
+        → (k ≡ kind.ArrayOf → is_next_to_name p.nodes node ≡ true → (ss : List PlacedStep) → steps_at js (kid node 0) ≡ Some ss → ss ≡ [])
         → (k ≡ kind.Takes → (i k : ℕ) (t : CType) → slice_get (other_kids node) i ≡ Some k → type_at js k ≡ Some t → lacks_length t ≡ false)
         → Part gives (judged_by p js node k)
     unfolding judged_by
-    any_part kind.Ident e h params = declarator_part [] refl
-    any_part kind.NoName e h params = declarator_part [] refl
-    any_part k e h params = kinds (h refl) k e params
+    any_part kind.Ident e h first params = declarator_part [] refl
+    any_part kind.NoName e h first params = declarator_part [] refl
+    any_part k e h first params = kinds (h refl) k e first params

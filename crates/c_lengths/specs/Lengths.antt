@@ -17,3 +17,8 @@ abbrev mutual
   pub one_lacks : CTypes → Bool
   one_lacks no_types = false
   one_lacks (a_type t ts) = lacks_length t || one_lacks ts
+
+-- an array inside of the outermost type has none
+abbrev pub inside_lacks : CType → Bool
+inside_lacks (unsized t) = lacks_length t
+inside_lacks t = lacks_length t
