@@ -40,7 +40,7 @@ use Rattle.c_typing.proofs.ProgressParts.{part_declares}
 use Rattle.c_typing.proofs.ProgressBuilt.{is_leaf}
 use Rattle.c_typing.proofs.MadeNodes.{In}
 use Rattle.c_typing.proofs.MadeWhole.{Stem}
-use Rattle.c_lengths.specs.Lengths.{lacks_length}
+use Rattle.c_lengths.specs.Lengths.{inside_lacks, lacks_length}
 use Rattle.c_lengths.proofs.Steps.{steps_lack}
 use Rattle.c_lengths.proofs.Specs.{says_type, type_only}
 use Rattle.c_lengths.proofs.Parts.{Part, any_part, is_given}
@@ -89,14 +89,14 @@ only_initial cat (j ∷ []) zero k e at is = true≢false (sym e ∙ (ap (λ x. 
 only_initial cat (j ∷ []) (suc i) k e at is = gone at
 only_initial cat (j ∷ h ∷ more) i k e at is = true≢false (sym e)
 
-declarator_first : (cat : ℕ → Category) (text : List ℕ) (ks : List ℕ) (i k : ℕ) → kids_fit kind.InitDecl text (map cat ks) ≡ true → slice_get ks i ≡ Some k → cat k ≡ category.declarator → unwrap_or (slice_get ks 0) 0 ≡ k
+pub declarator_first : (cat : ℕ → Category) (text : List ℕ) (ks : List ℕ) (i k : ℕ) → kids_fit kind.InitDecl text (map cat ks) ≡ true → slice_get ks i ≡ Some k → cat k ≡ category.declarator → unwrap_or (slice_get ks 0) 0 ≡ k
 declarator_first cat text [] i k f at is = absurd (gone at)
 declarator_first cat text (j ∷ ks) zero k f at is = some_same at
 declarator_first cat text (j ∷ ks) (suc i) k f at is = absurd (only_initial cat ks i k (of.of_initializer text (map cat (j ∷ ks)) f).1 at is)
 
 -- ---- judgements before a node
 
-before_it : (js : List Judgement) (n k : ℕ) (t : CType) → type_at (take n js) k ≡ Some t → type_of (judgement_at js k) ≡ Some t
+pub before_it : (js : List Judgement) (n k : ℕ) (t : CType) → type_at (take n js) k ≡ Some t → type_of (judgement_at js k) ≡ Some t
 before_it js zero k t e = absurd (gone (none js ∙ e))
   where
     none : (ks : List Judgement) → None ≡ type_at (take 0 ks) k
@@ -116,7 +116,7 @@ steps_before [] (suc n) k ss e = absurd (gone e)
 steps_before (j ∷ js) (suc n) zero ss e = e
 steps_before (j ∷ js) (suc n) (suc k) ss e = steps_before js n k ss e
 
-given_type : {A : Type 0} (o : Option A) (f : A → Judgement) (t : CType) → type_of (given o f) ≡ Some t → (a : A) × (o ≡ Some a) × (type_of (f a) ≡ Some t)
+pub given_type : {A : Type 0} (o : Option A) (f : A → Judgement) (t : CType) → type_of (given o f) ≡ Some t → (a : A) × (o ≡ Some a) × (type_of (f a) ≡ Some t)
 given_type {A = A} None f t e = absurd (gone e)
 given_type {A = A} (Some a) f t e = (a, refl, e)
 
@@ -134,22 +134,29 @@ pub record Same (p : Places) (js : List Judgement) (node : Node) (t : CType) : T
   pub type : CType
   pub typed : type_at js (kid node 0) ≡ Some type
   pub same : lacks_length type ≡ false → t ≡ type
+  pub inside : inside_lacks type ≡ false → inside_lacks t ≡ false
 
 -- a judgement with this type, or with it made complete
 record Completes (u : CType) (j : Judgement) : Type 0 where
   is : (t : CType) → type_of j ≡ Some t → lacks_length u ≡ false → t ≡ u
+  inside : (t : CType) → type_of j ≡ Some t → inside_lacks u ≡ false → inside_lacks t ≡ false
+
+completed_inside : (t : CType) (n : Option ℕ) → inside_lacks t ≡ false → inside_lacks (completed t n) ≡ false
+completed_inside (unsized t) (Some n) e = e
+completed_inside (unsized t) None e = e
+completed_inside t n e = e
 
 choice_completes : (u : CType) (b : Bool) (x y : Judgement) → Completes u x → Completes u y → Completes u (if b then x else y)
 choice_completes u true x y h k = h
 choice_completes u false x y h k = k
 
 given_completes : {A : Type 0} (u : CType) (o : Option A) (f : A → Judgement) → ((a : A) → Completes u (f a)) → Completes u (given o f)
-given_completes {A = A} u None f h = record { is = λ t e fine. absurd (gone e) }
+given_completes {A = A} u None f h = record { is = λ t e fine. absurd (gone e); inside = λ t e fine. absurd (gone e) }
 given_completes {A = A} u (Some a) f h = h a
 
-verdict_completes : (u v : CType) (fs : List Fault) (ss : List Stmt) (cells : List Cell) → (lacks_length u ≡ false → v ≡ u) → Completes u (verdict fs (initialized v ss cells))
-verdict_completes u v [] ss cells h = record { is = λ t e fine. sym (some_same e) ∙ h fine }
-verdict_completes u v (f ∷ fs) ss cells h = record { is = λ t e fine. absurd (gone e) }
+verdict_completes : (u v : CType) (fs : List Fault) (ss : List Stmt) (cells : List Cell) → (lacks_length u ≡ false → v ≡ u) → (inside_lacks u ≡ false → inside_lacks v ≡ false) → Completes u (verdict fs (initialized v ss cells))
+verdict_completes u v [] ss cells h i = record { is = λ t e fine. sym (some_same e) ∙ h fine; inside = λ t e fine. ap inside_lacks (sym (some_same e)) ∙ i fine }
+verdict_completes u v (f ∷ fs) ss cells h i = record { is = λ t e fine. absurd (gone e); inside = λ t e fine. absurd (gone e) }
 
 init_completes : (p : Places) (js : List Judgement) (node : Node) (u : CType) (x : Name) → Completes u (init_by p js node u x)
 unfolding init_by initialized_object
@@ -157,16 +164,16 @@ init_completes p js node u x =
     choice_completes u (has_kid node 1) _ _
     (choice_completes u (is_object x.entity) _ _
     (given_completes u (part_for p js (is_static x.entity) false u (kid node 1)) (initialized_object p js (kid node 1) x u)
-    (λ q. verdict_completes u (completed u (given_count p js (node_at p.nodes (kid node 1)) (kind_at p.nodes (kid node 1)))) _ _ _ (λ fine. completed_same u _ fine)))
-    (verdict_completes u u (bad_initializer true (kid node 1)) [] [] (λ fine. refl)))
-    (verdict_completes u u [] (bare_code p x x.entity) [] (λ fine. refl))
+    (λ q. verdict_completes u (completed u (given_count p js (node_at p.nodes (kid node 1)) (kind_at p.nodes (kid node 1)))) _ _ _ (λ fine. completed_same u _ fine) (λ fine. completed_inside u _ fine)))
+    (verdict_completes u u (bad_initializer true (kid node 1)) [] [] (λ fine. refl) (λ fine. fine)))
+    (verdict_completes u u [] (bare_code p x x.entity) [] (λ fine. refl) (λ fine. fine))
 
-initialized_type : (p : Places) (js : List Judgement) (node : Node) (t : CType) → type_of (judged_by p js node kind.InitDecl) ≡ Some t → Same p js node t
+pub initialized_type : (p : Places) (js : List Judgement) (node : Node) (t : CType) → type_of (judged_by p js node kind.InitDecl) ≡ Some t → Same p js node t
 unfolding judged_by init_declarator
 initialized_type p js node t e =
     let (u, typed, more) = given_type (type_at js (kid node 0)) _ t e in
     let (x, named, rest) = given_type (name_of p (node_at p.nodes (kid node 0)).first) _ t more in
-    record { type = u; typed = typed; same = (init_completes p js node u x).is t rest }
+    record { type = u; typed = typed; same = (init_completes p js node u x).is t rest; inside = (init_completes p js node u x).inside t rest }
 
 parameter_type : (p : Places) (js : List Judgement) (node : Node) (t : CType) → type_of (judged_by p js node kind.Param) ≡ Some t → type_at js (kid node 1) ≡ Some t
 unfolding judged_by parameter_node

@@ -7,3 +7,4 @@ pub mod Owners
 pub mod Lengths
 pub mod Prefixes
 pub mod Firsts
+pub mod Objects
