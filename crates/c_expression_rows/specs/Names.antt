@@ -1,7 +1,7 @@
 -- What a name that is used denotes, and the type of it.
-use Rattle.std.specs.Prelude.{◌≡◌, ◌⊎◌, ℕ, Bool, true, false, List, Option, Some, None, IfSome, is_some, if◌then◌else◌}
+use Rattle.std.specs.Prelude.{◌≡◌, ◌⊎◌, ℕ, Bool, true, false, List, Option, Some, None, is_some, if◌then◌else◌}
 use Rattle.c_syntax.specs.declared.syntax.SynNode.{SynNode}
-use Rattle.c_typing.specs.Types.{CType, pointer, unsized}
+use Rattle.c_typing.specs.Types.{CType}
 use Rattle.c_typing.specs.Names.{Entity, Name, automatic, denoted, parameter, typedef_name}
 use Rattle.c_typing.specs.Judgements.{type_at}
 use Rattle.c_names.specs.Denoted.{places_in}
@@ -26,11 +26,3 @@ abbrev pub is_local : Entity → Bool
 is_local automatic = true
 is_local (parameter i) = true
 is_local e = false
-
-abbrev pub points_to_unsized : CType → Bool
-points_to_unsized (pointer (unsized t)) = true
-points_to_unsized t = false
-
--- no object is a pointer to an array without a length: an initializer gives a length to what it initializes alone
-abbrev pub IsOfObject : Option CType → Type 0
-IsOfObject o = IfSome o (λ t. points_to_unsized t ≡ false)

@@ -5,7 +5,7 @@ ghost use Rattle.c_typing.specs.Names as rules;
 ghost use Rattle.c_typing.specs.Names.{Name};
 ghost use Rattle.c_names.specs.Denoted.{places_in};
 ghost use Rattle.c_meanings.specs.Meanings.{IsReady, IsRow, node_in};
-ghost use Rattle.c_expression_rows.specs.Names.{Denotes, IsOfObject, declared_type, is_local};
+ghost use Rattle.c_expression_rows.specs.Names.{Denotes, is_local};
 
 use crate::declared::type_of_name;
 use c_answers::Refusal;
@@ -26,7 +26,6 @@ pub fn object_name(
     requires within { node < length nodes.now }
     requires kind { (node_in nodes.now node).label.kind ≡ kind.Var }
     requires denotes { (e : Name) × Denotes nodes.now node e × (e.entity ≡ rules.static_object) × (e.owner ≡ owner) × (e.behind ≡ behind) × (unwrap_or (rules.object_number (places_in nodes.now) e) 0 ≡ number) }
-    requires of_object { IsOfObject (declared_type nodes.now node owner behind) }
     requires ready { IsReady nodes.now node 0 meanings.now }
     ensures { IsRow nodes.now node meanings.now meanings.now result }
 {
@@ -48,7 +47,6 @@ pub fn local_name(
     requires within { node < length nodes.now }
     requires kind { (node_in nodes.now node).label.kind ≡ kind.Var }
     requires denotes { (e : Name) × Denotes nodes.now node e × (is_local e.entity ≡ true) × (e.owner ≡ owner) × (e.behind ≡ behind) × (rules.local_number (places_in nodes.now) e ≡ number) }
-    requires of_object { IsOfObject (declared_type nodes.now node owner behind) }
     requires ready { IsReady nodes.now node 0 meanings.now }
     ensures { IsRow nodes.now node meanings.now meanings.now result }
 {

@@ -5,14 +5,15 @@ use Rattle.c_typing.specs.Expressions.{expression, local_typing}
 use Rattle.c_meanings.proofs.MeaningLaws.{its_number, nothing_taken, waiting_row}
 use Rattle.c_expression_rows.proofs.RowLaws.{no_some}
 use Rattle.c_expression_rows.proofs.ParenthesesLaws.{operand_row}
-use Rattle.c_expression_rows.proofs.VariableLaws.{in_local, local_is, of_object}
+use Rattle.c_expression_rows.proofs.VariableLaws.{in_local, local_is, named_object, of_object, local_named}
 use Rattle.c_expression_rows.proofs.variables.local_name.Goals as goal
 
 pub local-requires : goal.local-requires
 local-requires c =
     let m = c.args.meanings.now in
     let (t, e, is) = c.in-Some.ensures {u = tt} in
-    in_local m.types c.in-Some.kind t c.args.number (of_object _ t c.requires.of_object e) is
+    let (name, denotes, same, owner, behind, numbered) = c.requires.denotes in
+    in_local m.types c.in-Some.kind t c.args.number (of_object _ t (named_object c.args.nodes.now c.args.node c.requires.ready.derived name c.args.owner c.args.behind denotes (local_named name.entity same) owner behind) e) is
 
 pub returns-in_default : goal.returns-in_default
 returns-in_default c =
