@@ -19,7 +19,14 @@ use Rattle.c_typing.proofs.ProgressForms.{is_part}
 use Rattle.c_typing.proofs.ProgressAll.{found_at}
 use Rattle.c_typing.proofs.ProgressPlaces.{AreLinked, Linked, are_linked}
 use Rattle.c_typing.proofs.ProgressDeclared.{IsDeclaredName, Stands, all_names_stand, is_enumerator_entity, of_denoted}
-use Rattle.c_lengths.specs.Lengths.{inside_lacks}
+use Rattle.std.specs.Prelude.{filter, unwrap_or}
+use Rattle.c_typing.specs.Places.{is_function}
+use Rattle.c_typing.proofs.ProgressKinds as of
+use Rattle.c_typing.proofs.ProgressStep.{at_index}
+use Rattle.c_typing.proofs.ProgressAround.{IsAround, is_body}
+use Rattle.c_lengths.proofs.Owners.{has_none}
+use Rattle.c_lengths.proofs.Lengths.{owned}
+use Rattle.c_lengths.specs.Lengths.{inside_lacks, lacks_length}
 use Rattle.c_lengths.proofs.Steps.{inside_fine}
 use Rattle.c_lengths.proofs.Typedefs.{IsOwned, all_owned, declares_names}
 use Rattle.c_lengths.proofs.Lengths.{all_good, before_it, declarator_first, given_type, initialized_type}
@@ -86,3 +93,14 @@ module _ (tokens : List Token) (t : Tree) (derived : IsTreeOf tokens t) where
       by : Stands (category_at t) (nodes t) x → Inside x
       by (inl en) = absurd (true≢false (sym (ap is_enumerator_entity en.entity) ∙ other))
       by (inr de) = record { owner = of_owner x de owned; declarator = of_declarator x de }
+
+  -- what the function around a statement is declared as
+  pub around_fine : (n : ℕ) (m : Node) → slice_get (nodes t) n ≡ Some m → is_body (category_at t n) ≡ true → (a : IsAround (nodes t) (filter (λ (f : Node). is_function f.label.kind) (nodes t)) n)
+      → (u : CType) → type_of (judgement_at js (kid a.node 1)) ≡ Some u → lacks_length u ≡ false
+  around_fine n m e body a u typed =
+      let shape = l.shapes.shaped a.place a.node a.at in
+      let fit = of.of_function a.node.label.text (map (category_at t) a.node.kids) (ap (λ k. kids_fit k a.node.label.text (map (category_at t) a.node.kids)) (sym a.function) ∙ shape.kids) in
+      let i = at_index (category_at t) a.node.kids 1 (λ c. of.is_declarator_only c) refl (ap of.is_declarator_only fit.1) in
+      let second : kid a.node 1 ≡ i.place = ap (λ o. unwrap_or o 0) i.is in
+      let part = ap is_part (of.only_declarator (category_at t i.place) i.passes) in
+      owned tokens t derived a.place a.node a.at (ap has_none a.function) 1 i.place i.is part u (ap (λ k. type_of (judgement_at js k)) (sym second) ∙ typed)
