@@ -5,5 +5,6 @@ pub mod NameRowLaws
 pub mod ParenthesesLaws
 pub mod PrefixLaws
 pub mod RowLaws
+pub mod StepLaws
 pub mod StringLaws
 pub mod VariableLaws

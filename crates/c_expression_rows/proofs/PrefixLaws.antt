@@ -23,14 +23,14 @@ other_text s t other = by (bytes_eq s t) refl
 
 module _ (table : List SynNode) (n : ℕ) where
   -- an operator by tests of its text
-  abbrev by_tests : Bool → Bool → Bool → Bool → rules.Typing → Judgement
+  abbrev pub by_tests : Bool → Bool → Bool → Bool → rules.Typing → Judgement
   by_tests address target negation step x =
       if address then address_operator (node_in table n) x else
       if target then dereference (judged_to table n) (node_in table n) (value_of x).type (value_of x) else
       if negation then not_operator (node_in table n) (value_of x) else
       if step then prefix_step (places_in table) (judged_to table n) (node_in table n) x else sign_operator (node_in table n) (value_of x)
 
-  abbrev by_text : List ℕ → rules.Typing → Judgement
+  abbrev pub by_text : List ℕ → rules.Typing → Judgement
   by_text text = by_tests (bytes_eq text (codes "&")) (bytes_eq text (codes "*")) (bytes_eq text (codes "!")) (is_step text)
 
   abbrev with : (rules.Typing → Judgement) → Judgement
@@ -40,7 +40,7 @@ module _ (table : List SynNode) (n : ℕ) where
   unfolding judged_at judged_by
   unary_waits is = ap (judged_by (places_in table) (judged_to table n) (node_in table n)) is
 
-  unary_is : (node_in table n).label.kind ≡ kind.Unary → judged_at table n ≡ with (by_text (node_in table n).label.text)
+  pub unary_is : (node_in table n).label.kind ≡ kind.Unary → judged_at table n ≡ with (by_text (node_in table n).label.text)
   unfolding unary
   unary_is is = unary_waits is
 
