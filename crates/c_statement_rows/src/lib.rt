@@ -9,7 +9,7 @@
 // The theorem, on each row: `IsRow` of `c_meanings`, where the node is of the row's kind.
 //
 // `simple` has statements without parts that are statements, `loops` those with a condition and parts, `jumps` `break` and
-// `continue`, `blocks` blocks.
+// `continue`, `blocks` blocks, `returns` `return`.
 //
 // Source: C99 6.8.
 #![tactic(auto)]
@@ -17,9 +17,11 @@
 mod blocks;
 mod jumps;
 mod loops;
+mod returns;
 mod simple;
 
 pub use blocks::block;
 pub use jumps::{break_out, go_on};
 pub use loops::{conditional, do_loop, while_loop};
+pub use returns::return_from;
 pub use simple::{empty, expression};
