@@ -2,3 +2,4 @@ pub mod StatementLaws
 mod PartLaws
 mod JumpLaws
 mod BlockLaws
+mod ForLaws

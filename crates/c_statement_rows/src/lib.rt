@@ -8,18 +8,20 @@
 //
 // The theorem, on each row: `IsRow` of `c_meanings`, where the node is of the row's kind.
 //
-// `simple` has statements without parts that are statements, `loops` those with a condition and parts, `jumps` `break` and
-// `continue`, `blocks` blocks.
+// `simple` has statements without parts that are statements, `loops` those with a condition and parts, `fors` `for`, `jumps`
+// `break` and `continue`, `blocks` blocks.
 //
 // Source: C99 6.8.
 #![tactic(auto)]
 
 mod blocks;
+mod fors;
 mod jumps;
 mod loops;
 mod simple;
 
 pub use blocks::block;
+pub use fors::for_loop;
 pub use jumps::{break_out, go_on};
 pub use loops::{conditional, do_loop, while_loop};
 pub use simple::{empty, expression};
