@@ -3,3 +3,4 @@ mod PartLaws
 mod JumpLaws
 mod BlockLaws
 mod ReturnLaws
+mod ForLaws

@@ -72,7 +72,7 @@ fn take_block(
     one(alloc, as_block(whole))
 }
 
-fn as_block(stmts: Stmts) -> Stmt
+pub(crate) fn as_block(stmts: Stmts) -> Stmt
     ensures { result ≡ block_of stmts }
 {
     Stmt::Block(stmts)

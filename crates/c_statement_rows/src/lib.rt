@@ -8,19 +8,21 @@
 //
 // The theorem, on each row: `IsRow` of `c_meanings`, where the node is of the row's kind.
 //
-// `simple` has statements without parts that are statements, `loops` those with a condition and parts, `jumps` `break` and
-// `continue`, `blocks` blocks, `returns` `return`.
+// `simple` has statements without parts that are statements, `loops` those with a condition and parts, `fors` `for`, `jumps`
+// `break` and `continue`, `returns` `return`, `blocks` blocks.
 //
 // Source: C99 6.8.
 #![tactic(auto)]
 
 mod blocks;
+mod fors;
 mod jumps;
 mod loops;
 mod returns;
 mod simple;
 
 pub use blocks::block;
+pub use fors::for_loop;
 pub use jumps::{break_out, go_on};
 pub use loops::{conditional, do_loop, while_loop};
 pub use returns::return_from;
