@@ -1,11 +1,6 @@
-<<<<<<< HEAD
--- The types of parameters and members of a derived tree have their lengths, and the part inside of an array next to a name has no
--- steps.
-use Rattle.std.proofs.Common.{◌≡◌, ◌<◌, ℕ, zero, suc, false, List, [], ◌∷◌, Option, Some, None, length, refl, arith, true≢false}
-=======
--- The types of parameters, members and specs of a derived tree have their lengths (C99 6.7.5.2).
+-- The types of parameters, members and specs of a derived tree have their lengths, and the part inside of an array next to a name
+-- has no steps (C99 6.7.5.2).
 use Rattle.std.proofs.Common.{◌≡◌, ◌<◌, ℕ, zero, suc, false, List, [], ◌∷◌, Option, Some, None, length, refl, sym, arith, true≢false}
->>>>>>> 8a643a3ddc057d0b05ef95e0608f89f6d6b69461
 use Rattle.std.specs.Prelude.{IfSome, slice_get, unwrap_or}
 use Rattle.c_syntax.specs.declared.kind.SynKind.TheVariants as kind
 use Rattle.c_syntax.specs.declared.syntax.SynNode.{SynNode}
@@ -18,15 +13,10 @@ use Rattle.c_names.specs.Denoted.{IsDerived, places_in}
 use Rattle.c_meanings.specs.Meanings.{judged_to, kid_in, node_in}
 use Rattle.c_meanings.proofs.KidLaws.{node_there}
 use Rattle.c_lengths.specs.Lengths as deep
-<<<<<<< HEAD
-use Rattle.c_lengths.proofs.Lengths.{members_fine, parameters_fine}
+use Rattle.c_lengths.proofs.Lengths.{members_fine, parameters_fine, specs_fine}
 use Rattle.c_lengths.proofs.Firsts.{array_first}
 use Rattle.c_lengths.proofs.Prefixes.{seen_before, type_before}
 use Rattle.c_declarator_rows.specs.Arrays.{BeginsAtName}
-=======
-use Rattle.c_lengths.proofs.Lengths.{members_fine, parameters_fine, specs_fine}
-use Rattle.c_lengths.proofs.Prefixes.{type_before}
->>>>>>> 8a643a3ddc057d0b05ef95e0608f89f6d6b69461
 use Rattle.c_declarator_rows.specs.Lengths.{HasLengthAt, KidsHaveLengths, lacks_length}
 use Rattle.c_declarator_rows.proofs.MemberRowLaws.{by_index}
 
@@ -63,15 +53,13 @@ module _ (table : List SynNode) (n : ℕ) (d : IsDerived table) (within : n < le
       by_index (HasLengthAt (judged_to table n)) ks (λ i less. its_length table n (unwrap_or (slice_get ks i) 0)
       (λ u typed. members_fine d.tokens (tree_in table) d.derived n (node_in table n) (node_there table n d within) is i (unwrap_or (slice_get ks i) 0) (there ks i less) u typed))
 
-<<<<<<< HEAD
   pub begins_at_name : (node_in table n).label.kind ≡ kind.ArrayOf → BeginsAtName table n
   unfolding judged_to places_in nodes_in
   begins_at_name is = λ next ss typed.
       array_first d.tokens (tree_in table) d.derived n (node_in table n) (node_there table n d within) is next ss (seen_before (places_in table) steps_of refl n (nodes_in table) (kid_in table n 0) ss typed)
-=======
+
 -- the type of specs has its length, wherever they stand
 pub specs_length : (table : List SynNode) (n s : ℕ) → IsDerived table → s < length (nodes_in table) → (node_in table s).label.kind ≡ kind.Specs → HasLengthAt (judged_to table n) s
 unfolding places_in nodes_in
 specs_length table n s d within is =
     its_length table n s (λ u typed. specs_fine d.tokens (tree_in table) d.derived s (node_in table s) (node_there table s d within) is u typed)
->>>>>>> 8a643a3ddc057d0b05ef95e0608f89f6d6b69461
